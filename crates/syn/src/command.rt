@@ -235,7 +235,7 @@ where
     Ok(outcome)
 }
 
-/// Tells that the command was done, as the last event of the replica, which has this position.
+/// Prints `ok` and the position of the replica's last event.
 fn done_at<O: Write>(position: u64, output: &mut O) -> Result<Outcome, Failure> {
     writeln!(output, "ok {position}")?;
     Ok(Outcome::Done)

@@ -2,7 +2,7 @@
 ghost use Rattle.std.specs.Prelude.{◌≡◌, None, option_map};
 ghost use Rattle.syn_history.specs.Events.{token_of};
 
-use crate::staging::{MAX_STAGED, Staging};
+use crate::staging::{MOST_STAGED, Staging};
 use syn_history::Token;
 use syn_message::Reply;
 use syn_refusal::Refusal;
@@ -59,7 +59,7 @@ impl Agent {
         if offset != 0 {
             return Reply::Refused(Refusal::NotStaged);
         }
-        if bytes.len() > MAX_STAGED {
+        if bytes.len() > MOST_STAGED {
             return Reply::Refused(Refusal::BadStage);
         }
         self.staging = Some(Staging::new(token, bytes));

@@ -52,4 +52,4 @@ mod staging;
 
 pub use agent::Agent;
 pub use laws::machine_laws;
-pub use staging::{MAX_STAGED, Staging};
+pub use staging::{MOST_STAGED, Staging};

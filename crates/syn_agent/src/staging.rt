@@ -8,7 +8,7 @@ use syn_refusal::Refusal;
 use syn_tree::LONGEST_SPELLING;
 
 /// The most bytes that are staged for an item.
-pub const MAX_STAGED: usize = LONGEST_SPELLING;
+pub const MOST_STAGED: usize = LONGEST_SPELLING;
 
 /// The bytes that came for an item, under its token.
 #[derive(Debug, Drop)]
@@ -41,13 +41,14 @@ impl Staging {
         self.bytes.as_slice()
     }
 
-    /// Adds a further piece after the bytes that are there, where the most are not passed. A piece
-    /// that is there already stays; any other is refused 17, and 11 where memory is refused.
+    /// Appends a piece that starts where the staged bytes end and passes no limit. A piece that is
+    /// staged already is answered Staged, too. Any other is refused 17, and one that cannot be
+    /// appended for lack of memory 11.
     pub(crate) fn add(&mut self, offset: u32, bytes: &[u8]) -> Reply
         ensures { AddsAs (staged_of self.old) (staged_of self.new) result offset bytes.now }
     {
         let offset = offset as usize;
-        if offset == self.bytes.len() && offset + bytes.len() <= MAX_STAGED {
+        if offset == self.bytes.len() && offset + bytes.len() <= MOST_STAGED {
             return match self.bytes.extend_from_slice(bytes) {
                 Ok(()) => Reply::Staged,
                 Err(_) => Reply::Refused(Refusal::Memory),

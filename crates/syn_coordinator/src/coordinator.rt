@@ -138,10 +138,10 @@ impl<D: Disk> Coordinator<D> {
         self.report.as_ref()
     }
 
-    /// The records that the last call wrote, in order, and the one that it sent to the disk and
-    /// was refused 9, if any. The last call is a `start` that was answered Ok or 9, or an
-    /// `on_reply`. The archive may have the refused record when it is opened again, which changes
-    /// neither answer. Where the checkpoint before a record failed, none was sent.
+    /// The records that the last writing call wrote, in order, and the one that it sent to the disk
+    /// and whose write failed (9), if any. A writing call is a `start` that was answered Ok or 9,
+    /// or an `on_reply`. The archive may have the failed record when it is opened again, which
+    /// changes neither answer. A checkpoint that failed before a record sent none.
     pub fn kept(&self) -> (&[Kept], Option<&Kept>)
         ensures written { map kept_of result.0.now ≡ written self.now }
         ensures broken { option_map (λ kept. kept_of kept.now) result.1 ≡ broken self.now }

@@ -74,7 +74,7 @@ pub fn keep_due<D: Disk>(
     }
 }
 
-/// Records it, unless the journal has no room for it: then nothing is answered.
+/// Tries to record it. None means that the journal has no room for the record.
 fn record<D: Disk>(
     alloc: Global,
     archive: &mut Archive<D>,

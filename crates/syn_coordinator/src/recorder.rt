@@ -217,9 +217,8 @@ impl<D: Disk> Recorder<D> {
         Ok(Broken::Copied(kept.copy(alloc)?))
     }
 
-    /// What was tried, where the archive has it now; and it is forgotten, but for this copy of what
-    /// was answered 9. Where the machine is stopped it is still remembered, and nothing is
-    /// answered.
+    /// Answers the tried record where the archive, which was opened again, has it, and forgets what
+    /// was tried. The copy stays as what `kept` tells. On a stopped machine it does nothing.
     pub(crate) fn recovered(&mut self, broke: Broken) -> Option<Kept>
         requires broke { (tried : Option Unconfirmed) → broken_by broke tried ≡ broken self.old }
         ensures goes { is_stopped (D.Disk.arms (disk_of self.new.archive)) ≡ false

@@ -15,9 +15,9 @@ pub trait NamedDisks {
     /// A disk that is locked, and of which nothing was read yet.
     type Locked: LockedDisk<Disk = Self::Disk> + Drop + Send;
 
-    /// Takes the lock on the disk of that name. To write, no other process may open it as long as
-    /// this one has it. To read, others may read it meanwhile and none may write it; it need not be
-    /// one that can be written, and each write fails.
+    /// Takes the lock on the disk of that name. With `Write` no other process can open it
+    /// meanwhile. With `Read` others may read it and none may write it; the disk need not be
+    /// writable, and each write fails.
     ///
     /// It is refused 12 where another process has it, to write where this one reads; 9 where there
     /// is none or the device fails; and 11 for lack of memory.

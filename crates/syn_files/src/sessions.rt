@@ -28,8 +28,9 @@ use syn_sync::{SessionWatch, Unwatched};
 /// Runs a session of the replicas and their archive, prints its report, and answers what it came
 /// to. Each item is told to `errors` where `progress` says so, and with the items their counts.
 ///
-/// Refused as an opening of a disk is, left first and the archive last; 9 where an address cannot
-/// be reached; and as the start of a session is.
+/// Refused as an opening of a disk is: of files left first and the archive last, and of servers the
+/// archive before an address is tried. Refused 9 where an address cannot be reached, and as the
+/// start of a session is.
 pub fn run_session<H, N, O, E>(
     rt: &H,
     alloc: Global,

@@ -233,8 +233,8 @@ impl<D: Disk> Journal<D> {
         }
     }
 
-    /// Halts the journal as `halt` does, and has it show again what it showed at the cursor. It
-    /// serves a layer above whose journal was halted before a reopening that it could not take.
+    /// Halts the journal as `halt` does, and restores what it showed before a reopening whose
+    /// result the layer above cannot use.
     pub fn halt_at(&mut self, cursor: JournalCursor)
         ensures halted { IsHalted self.new }
         ensures disk { disk_of self.new ≡ disk_of self.old }

@@ -4,14 +4,14 @@ use Rattle.std.specs.Prelude.{None, All}
 use Rattle.std.specs.Int.{w32, to_be_bytes}
 use Rattle.std.specs.Io.KnownBytes.{Appends}
 use Rattle.syn_wire.specs.Reads.{BeginsWith}
-use Rattle.syn_link.specs.declared.frames.TheConstants.{MAX_BODY}
+use Rattle.syn_link.specs.declared.frames.TheConstants.{LONGEST_BODY}
 
 abbrev pub Bytes : Type 0
 Bytes = List ℕ
 
 -- a body has at least one byte, and at most so many
 abbrev pub IsBody : Bytes → Type 0
-IsBody body = (1 ≤ length body) × (length body ≤ MAX_BODY)
+IsBody body = (1 ≤ length body) × (length body ≤ LONGEST_BODY)
 
 abbrev pub frame_of : Bytes → Bytes
 frame_of body = to_be_bytes w32 (length body) ++ body
@@ -25,7 +25,7 @@ abbrev pub ClaimsNothing : Bytes → Type 0
 ClaimsNothing bytes = ClaimsLength bytes 0
 
 abbrev pub ClaimsTooMuch : Bytes → Type 0
-ClaimsTooMuch bytes = (n : ℕ) × (MAX_BODY < n) × ClaimsLength bytes n
+ClaimsTooMuch bytes = (n : ℕ) × (LONGEST_BODY < n) × ClaimsLength bytes n
 
 -- What stands in front: a whole frame and the rest; or no whole frame yet, and no fault
 abbrev pub IsFront : Bytes → Option Bytes → Bytes → Type 0

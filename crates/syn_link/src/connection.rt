@@ -5,7 +5,7 @@ ghost use Rattle.std.specs.Io.KnownBytes.{Appends, Keeps};
 ghost use Rattle.syn_link.specs.Connections.{IsUnread, held_by, reader_of, writer_of};
 ghost use Rattle.syn_link.specs.Frames.{AppendsSome, IsFront, frame_of};
 ghost use Rattle.syn_link.specs.Streams.{Comes, ComesAtFault, EndsBefore};
-ghost use Rattle.syn_link.specs.declared.frames.TheConstants.{MAX_BODY};
+ghost use Rattle.syn_link.specs.declared.frames.TheConstants.{LONGEST_BODY};
 
 use crate::error::LinkError;
 use crate::framer::Framer;
@@ -59,7 +59,7 @@ impl<R: Read, W: Write> Connection<R, W> {
         ensures nothing { IfErr result (λ e. (e ≡ LinkError.Device)
             ⊎ Keeps (W.contents (writer_of self.old)) (W.contents (writer_of self.new))) }
         ensures bad_frame { (result ≡ Err LinkError.BadFrame) ↔ (length body.now ≡ 0) }
-        ensures too_large { (result ≡ Err LinkError.TooLarge) ↔ (MAX_BODY < length body.now) }
+        ensures too_large { (result ≡ Err LinkError.TooLarge) ↔ (LONGEST_BODY < length body.now) }
         ensures memory { IfErr result (λ e. e ≢ LinkError.Memory) }
         ensures unread { IsUnread self.old self.new }
     {

@@ -14,7 +14,7 @@ use thiserror::Error;
 pub enum LinkError {
     /// 21: a length of 0.
     BadFrame,
-    /// 22: a length above `MAX_BODY`.
+    /// 22: a length above `LONGEST_BODY`.
     TooLarge,
     /// 9: a read or a write failed.
     Device,

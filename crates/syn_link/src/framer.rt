@@ -72,8 +72,8 @@ impl Framer {
     /// Hands out the body of the first frame; none where no whole frame came yet.
     ///
     /// Refused 21 where the stream goes on with a length of 0, and 22 where with one above
-    /// `MAX_BODY`: such a fault stays, and is answered again each time. Refused 11 where memory is
-    /// refused. It is then as it was.
+    /// `LONGEST_BODY`: such a fault stays, and is answered again each time. Refused 11 where memory
+    /// is refused. It is then as it was.
     pub fn next(&mut self, alloc: Global) -> Result<Option<Vec<u8>>, LinkError>
         ensures front { IfOk result
             (λ found. IsFront self.old (option_map (λ body. body.items) found) self.new) }

@@ -2,7 +2,7 @@
 ghost use Rattle.std.specs.Prelude.{◌≡◌, ◌≢◌, ◌↔◌, ◌⊎◌, ◌+◌, ◌<◌, ◌≤◌, Err, length, drop, IfOk};
 ghost use Rattle.std.specs.Prelude.{IfErr, IfSome, IfNone, OnOk, Some, None};
 ghost use Rattle.std.specs.Int.{w32, to_be_bytes};
-ghost use Rattle.syn_link.specs.declared.frames.TheConstants.{MAX_BODY};
+ghost use Rattle.syn_link.specs.declared.frames.TheConstants.{LONGEST_BODY};
 ghost use Rattle.syn_link.specs.Frames.{IsBody, IsFront, ClaimsNothing, ClaimsTooMuch, frame_of};
 
 use crate::error::LinkError;
@@ -11,15 +11,15 @@ use std::alloc::Global;
 use syn_wire::read_u32;
 
 /// The most bytes of a body.
-pub const MAX_BODY: usize = 65_536;
+pub const LONGEST_BODY: usize = 65_536;
 
 /// The body with its length before it. Refused 21 where it is empty, 22 where it has more than
-/// `MAX_BODY` bytes, and 11 where memory is refused.
+/// `LONGEST_BODY` bytes, and 11 where memory is refused.
 pub fn frame(alloc: Global, body: &[u8]) -> Result<Vec<u8>, LinkError>
     ensures framed { IfOk result (λ framed. framed.items ≡ frame_of body.now) }
     ensures body { OnOk result (IsBody body.now) }
     ensures bad_frame { (result ≡ Err LinkError.BadFrame) ↔ (length body.now ≡ 0) }
-    ensures too_large { (result ≡ Err LinkError.TooLarge) ↔ (MAX_BODY < length body.now) }
+    ensures too_large { (result ≡ Err LinkError.TooLarge) ↔ (LONGEST_BODY < length body.now) }
     ensures device { IfErr result (λ e. e ≢ LinkError.Device) }
 {
     check_length(body.len())?;
@@ -31,7 +31,7 @@ pub fn frame(alloc: Global, body: &[u8]) -> Result<Vec<u8>, LinkError>
 
 /// The length of a body as its frame begins.
 pub(crate) fn spelled_length(length: usize) -> [u8; 4]
-    requires { length ≤ MAX_BODY }
+    requires { length ≤ LONGEST_BODY }
     ensures { result ≡ to_be_bytes w32 length }
 {
     let mut spelled = [0; 4];
@@ -39,17 +39,17 @@ pub(crate) fn spelled_length(length: usize) -> [u8; 4]
     spelled
 }
 
-/// Whether a body may have so many bytes: not none (21), and at most `MAX_BODY` (22).
+/// Whether a body may have so many bytes: not none (21), and at most `LONGEST_BODY` (22).
 pub(crate) fn check_length(length: usize) -> Result<(), LinkError>
-    ensures ok { OnOk result ((1 ≤ length) × (length ≤ MAX_BODY)) }
+    ensures ok { OnOk result ((1 ≤ length) × (length ≤ LONGEST_BODY)) }
     ensures bad_frame { (result ≡ Err LinkError.BadFrame) ↔ (length ≡ 0) }
-    ensures too_large { (result ≡ Err LinkError.TooLarge) ↔ (MAX_BODY < length) }
+    ensures too_large { (result ≡ Err LinkError.TooLarge) ↔ (LONGEST_BODY < length) }
     ensures other { IfErr result (λ e. (e ≡ LinkError.BadFrame) ⊎ (e ≡ LinkError.TooLarge)) }
 {
     if length == 0 {
         return Err(LinkError::BadFrame);
     }
-    if length > MAX_BODY {
+    if length > LONGEST_BODY {
         return Err(LinkError::TooLarge);
     }
     Ok(())

@@ -36,7 +36,7 @@ mod stream;
 pub use connection::Connection;
 pub use error::LinkError;
 pub use framer::Framer;
-pub use frames::{MAX_BODY, frame};
+pub use frames::{LONGEST_BODY, frame};
 pub use stream::{read_body, read_some, write_frame};
 
 /// The same bytes are the same bodies and the same rest, wherever the stream was cut.

@@ -3,7 +3,7 @@ ghost use Rattle.std.specs.Prelude.{◌≡◌, ◌≢◌, ◌↔◌, ◌⊎◌, 
 ghost use Rattle.std.specs.Prelude.{take, IfOk, IfErr, IfSome, IfNone, OnOk, OnErr, Some};
 ghost use Rattle.std.specs.Io.KnownBytes.{Appends, Consumes, IsAtEnd, Keeps};
 ghost use Rattle.std.specs.Int.{to_be_bytes, w32};
-ghost use Rattle.syn_link.specs.declared.frames.TheConstants.{MAX_BODY};
+ghost use Rattle.syn_link.specs.declared.frames.TheConstants.{LONGEST_BODY};
 ghost use Rattle.syn_link.specs.declared.stream.TheConstants.{MOST_JOINED};
 ghost use Rattle.syn_link.specs.Frames.{frame_of, AppendsSome};
 ghost use Rattle.syn_link.specs.Streams.{Comes, EndsBefore, ComesAtFault};
@@ -33,7 +33,7 @@ pub fn write_frame<W: Write>(writer: &mut W, body: &[u8]) -> Result<(), LinkErro
     ensures nothing { IfErr result (λ e. (e ≡ LinkError.Device)
         ⊎ Keeps (W.contents writer.old) (W.contents writer.new)) }
     ensures bad_frame { (result ≡ Err LinkError.BadFrame) ↔ (length body.now ≡ 0) }
-    ensures too_large { (result ≡ Err LinkError.TooLarge) ↔ (MAX_BODY < length body.now) }
+    ensures too_large { (result ≡ Err LinkError.TooLarge) ↔ (LONGEST_BODY < length body.now) }
     ensures memory { IfErr result (λ e. e ≢ LinkError.Memory) }
 {
     check_length(body.len())?;
@@ -45,7 +45,7 @@ pub fn write_frame<W: Write>(writer: &mut W, body: &[u8]) -> Result<(), LinkErro
 
 /// Writes the length of a body and its first bytes.
 fn write_front<W: Write>(writer: &mut W, total: usize, front: &[u8]) -> Result<(), LinkError>
-    requires total { total ≤ MAX_BODY }
+    requires total { total ≤ LONGEST_BODY }
     requires front { length front.now ≤ MOST_JOINED }
     ensures written { OnOk result (Appends (W.contents writer.old) (W.contents writer.new)
         (to_be_bytes w32 total ++ front.now)) }

@@ -190,7 +190,7 @@ impl Scan {
         Ok(())
     }
 
-    /// Takes it that a directory that was not answered yet is none.
+    /// Notes that the path, for which no answer came yet, is no directory.
     /// Refused 11 where memory is refused, and for no other cause.
     pub(crate) fn take_no_directory(
         &mut self,

@@ -140,7 +140,7 @@ impl Scanner {
         Ok(())
     }
 
-    /// Takes it that no directory is at a path that was handed out, as it was at the position.
+    /// Notes that a path that was handed out was no directory at the position.
     ///
     /// Refused 23 where the path is not handed out or answered already, and 11 where memory is
     /// refused.

@@ -20,7 +20,7 @@ pub enum ServeError {
     Memory,
     /// 21: a frame with a length of 0 came.
     BadFrame,
-    /// 22: a frame with a length above `syn_link::MAX_BODY` came.
+    /// 22: a frame with a length above `syn_link::LONGEST_BODY` came.
     TooLarge,
     /// 23: a body came that is no message.
     BadMessage,

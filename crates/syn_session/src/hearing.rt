@@ -51,7 +51,7 @@ impl Session {
         is_silent(&self.left, left) && is_silent(&self.right, right)
     }
 
-    /// Takes it that a side answered the begin.
+    /// Takes the answer of a side to the begin.
     fn hear_begun(
         &mut self,
         alloc: Global,
@@ -74,7 +74,7 @@ impl Session {
         self.scan_on(alloc).map_err(|_| Refusal::Memory)
     }
 
-    /// Takes it that a side answered the listing.
+    /// Takes the answer of a side to a listing.
     fn hear_listed(
         &mut self,
         alloc: Global,

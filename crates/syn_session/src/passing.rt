@@ -22,7 +22,8 @@ impl PlanProgress {
     ghost use Rattle.syn_session.specs.Passing.{kept_at, past_at, refused_at};
     ghost use Rattle.syn_session.specs.Stages.{IsPlanProgress, Reached, plan_in};
 
-    /// Past an item that is a conflict. Refused 11 where memory is refused.
+    /// Counts the current item as a conflict, and moves to the next. Refused 11 where memory is
+    /// refused.
     pub fn pass_conflict(&mut self, path: Path) -> Result<(), AllocError>
         ensures passes { (left right : Found) (reached : Reached) (planned : Planned)
             → IsPlanProgress self.old left right reached
@@ -38,7 +39,8 @@ impl PlanProgress {
         Ok(())
     }
 
-    /// Past an item that is refused so. Refused 11 where memory is refused.
+    /// Counts the current item, which is at the path, as refused, and moves to the next. Refused 11
+    /// where memory is refused.
     pub(crate) fn pass_refused(&mut self, why: Refusal, path: Path) -> Result<(), AllocError>
         ensures passes { (left right : Found) (reached : Reached) (planned : Planned)
             → IsPlanProgress self.old left right reached
@@ -55,8 +57,8 @@ impl PlanProgress {
         Ok(())
     }
 
-    /// Past the item that it has come to, if any is left, which is refused so. Refused 11 where
-    /// memory is refused.
+    /// Counts the current item as refused, and moves to the next. Where no item is left it does
+    /// nothing. Refused 11 where memory is refused.
     pub fn refuse(&mut self, alloc: Global, why: Refusal) -> Result<(), AllocError>
         ensures passes { (left right : Found) (reached : Reached) (planned : Planned)
             → IsPlanProgress self.old left right reached
@@ -77,7 +79,8 @@ impl PlanProgress {
         self.pass_refused(why, path)
     }
 
-    /// Past the item that it has come to, if any is left, whose record is kept.
+    /// Counts the current item, whose record is kept, as carried or marked, and moves to the next.
+    /// Where no item is left it does nothing.
     pub fn pass_kept(&mut self)
         ensures passes { (left right : Found) (reached : Reached) (planned : Planned) (what : Kept)
             → IsPlanProgress self.old left right reached
@@ -95,7 +98,7 @@ impl PlanProgress {
         }
     }
 
-    /// Past an item that was carried, and whose record is kept.
+    /// Counts the current item, whose record is kept, as carried, and moves to the next.
     pub(crate) fn pass_carried(&mut self)
         ensures passes { (left right : Found) (reached : Reached) (planned : Planned) (what : Kept)
             → IsPlanProgress self.old left right reached

@@ -15,7 +15,7 @@ use syn_refusal::Refusal;
 use syn_scan::Scan;
 
 /// A plan of more items than this is refused.
-const MAX_ITEMS: usize = 0xffff_ffff;
+const MOST_ITEMS: usize = 0xffff_ffff;
 
 /// What is carried for an item, and what the archive is to have once that is done.
 #[derive(Debug, Drop)]
@@ -63,7 +63,7 @@ impl PlanProgress {
         let Ok(items) = plan(alloc, left, right, archive, preference) else {
             return Err(AllocError);
         };
-        if items.len() > MAX_ITEMS {
+        if items.len() > MOST_ITEMS {
             return Err(AllocError);
         }
         Ok(PlanProgress {

@@ -101,7 +101,7 @@ impl<R: Read, W: Write> Driver<R, W> {
         self.send_all(alloc, &sends);
         tell_sent(watch, &sends);
         self.go_on(alloc, coordinator, readiness, watch);
-        give_up(alloc, coordinator)
+        end_if_running(alloc, coordinator)
     }
 
     /// Goes on with the session until it ends, a link closes, neither side is ready in time, or the
@@ -305,11 +305,12 @@ fn start_after<D: Disk>(
     }
 }
 
-/// Lets time go by until the session that runs, if one does, ends for lack of an answer. What is to
-/// be sent again is dropped.
+/// Ends the session where it still runs, for lack of an answer. A session of the model ends so by
+/// ticks alone, and so this is as many ticks as end any; a session that has ended takes none of
+/// them. What they would send again is dropped.
 ///
 /// Refused 9 where the machine is stopped, and 25 where the session still runs.
-fn give_up<D: Disk>(alloc: Global, coordinator: &mut Coordinator<D>) -> Result<(), Refusal>
+fn end_if_running<D: Disk>(alloc: Global, coordinator: &mut Coordinator<D>) -> Result<(), Refusal>
     ensures calls { (pair : ℕ) (machine : CoordinatorMachine)
         → Stands coordinator.old pair machine → Calls coordinator.new pair machine [] }
     ensures stopped { is_stopped (D.Disk.arms (device_of coordinator.old)) ≡ true

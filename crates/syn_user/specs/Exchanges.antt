@@ -5,7 +5,7 @@ use Rattle.std.specs.Io.KnownBytes.{Appends}
 use Rattle.syn_link.specs.Frames.{AppendsSome, Bytes, IsBody, frame_of}
 use Rattle.syn_link.specs.Streams.{ComesAtFault, EndsBefore}
 use Rattle.syn_link.specs.declared.error.LinkError.TheVariants as link
-use Rattle.syn_link.specs.declared.frames.TheConstants.{MAX_BODY}
+use Rattle.syn_link.specs.declared.frames.TheConstants.{LONGEST_BODY}
 use Rattle.syn_message.specs.UserReplies as told
 use Rattle.syn_message.specs.UserReplies.{IsLawfulTold, Told, telling_spelling}
 use Rattle.syn_message.specs.Users.{Edits, Gets, IsLawfulWished, Wish, Wished, wished_spelling}
@@ -33,7 +33,7 @@ Answers (Gets path) (told.Refused why) = Unit {0}
 module _ (wished : Wished) where
   -- its body has more bytes than a frame takes
   abbrev pub IsTooLong : Type 0
-  IsTooLong = MAX_BODY < length (wished_spelling wished)
+  IsTooLong = LONGEST_BODY < length (wished_spelling wished)
 
   -- the body of a reply to it
   abbrev pub reply_spelling : Told → Bytes

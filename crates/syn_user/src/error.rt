@@ -25,7 +25,7 @@ pub enum UserError {
     Memory,
     /// 21: a frame with a length of 0 came.
     BadFrame,
-    /// 22: a frame with a length above `syn_link::MAX_BODY` came.
+    /// 22: a frame with a length above `syn_link::LONGEST_BODY` came.
     TooLarge,
     /// 23: a body came that is no reply to the request.
     BadMessage,

@@ -1,7 +1,7 @@
 //! Which requests a frame takes.
 ghost use Rattle.std.specs.Prelude.{◌≡◌, ◌<◌, ◌≤◌, IfErr, IfOk, false, length, true};
 ghost use Rattle.syn_link.specs.Frames.{IsBody};
-ghost use Rattle.syn_link.specs.declared.frames.TheConstants.{MAX_BODY};
+ghost use Rattle.syn_link.specs.declared.frames.TheConstants.{LONGEST_BODY};
 ghost use Rattle.syn_message.specs.Users.{IsLawfulWish, IsLawfulWished, wish_fields, wish_of};
 ghost use Rattle.syn_message.specs.Users.{wished_of, wished_spelling};
 ghost use Rattle.syn_model.specs.Event.{AreBytes, Edited};
@@ -13,7 +13,7 @@ ghost use Rattle.syn_wire.specs.Events.{IsSpelledEvent};
 
 use crate::error::UserError;
 use std::alloc::Global;
-use syn_link::MAX_BODY;
+use syn_link::LONGEST_BODY;
 use syn_message::{UserRequest, UserRequestMessage, encode_user_request};
 use syn_path::is_path;
 use syn_refusal::Refusal;
@@ -31,7 +31,7 @@ pub(crate) fn body_of(alloc: Global, asked: &UserRequestMessage) -> Result<Vec<u
         return Err(UserError::Refused(Refusal::Full));
     }
     let body = encode_user_request(alloc, asked)?;
-    if body.len() > MAX_BODY {
+    if body.len() > LONGEST_BODY {
         return Err(UserError::Refused(Refusal::Full));
     }
     Ok(body)
@@ -49,7 +49,7 @@ fn has_body(asked: &UserRequestMessage) -> bool
 /// The same of what is asked for.
 fn is_lawful(request: &UserRequest) -> bool
     ensures lawful { result ≡ true → IsLawfulWish (wish_of request.now) }
-    ensures long { result ≡ false → MAX_BODY < length (wish_fields (wish_of request.now)) }
+    ensures long { result ≡ false → LONGEST_BODY < length (wish_fields (wish_of request.now)) }
 {
     match request {
         UserRequest::Edit { user, edit } => is_lawful_edit(*user, edit),
@@ -64,7 +64,7 @@ fn is_lawful(request: &UserRequest) -> bool
 fn is_lawful_edit(user: u32, edit: &Edit) -> bool
     ensures lawful { result ≡ true → IsSpelledEvent (Edited user (edit_of edit.now)) }
     ensures long { result ≡ false
-        → MAX_BODY < length (event_spelling (Edited user (edit_of edit.now))) }
+        → LONGEST_BODY < length (event_spelling (Edited user (edit_of edit.now))) }
 {
     match edit {
         Edit::Put(path, bytes) => {
@@ -90,8 +90,8 @@ fn is_lawful_edit(user: u32, edit: &Edit) -> bool
 /// Whether there are no more bytes than a frame takes.
 fn fits_frame(bytes: &[u8]) -> bool
     ensures bytes { AreBytes bytes.now }
-    ensures short { result ≡ true → length bytes.now ≤ MAX_BODY }
-    ensures long { result ≡ false → MAX_BODY < length bytes.now }
+    ensures short { result ≡ true → length bytes.now ≤ LONGEST_BODY }
+    ensures long { result ≡ false → LONGEST_BODY < length bytes.now }
 {
-    bytes.len() <= MAX_BODY
+    bytes.len() <= LONGEST_BODY
 }

@@ -41,9 +41,9 @@ pub struct LockedFile<H> {
 impl<H: OsFile> LockedFile<H> {
     ghost use Rattle.syn_disk.specs.Locked.{IsLockedFile};
 
-    /// Opens the file at the path for this access, and takes the system's lock on it. To write, no
-    /// other process may open it as long as this one has it. To read, others may read it meanwhile
-    /// and none may write it, and a file and a folder that cannot be written will do.
+    /// Opens the file at the path for this access, and takes the system's lock on it. With `Write`
+    /// no other process can open it meanwhile. With `Read` others may read it and none may write
+    /// it, and neither the file nor its folder has to be writable.
     ///
     /// It is refused 12 where another process has the file open, to write where this one reads; 9
     /// where the file is missing or cannot be locked; and 11 for lack of memory.

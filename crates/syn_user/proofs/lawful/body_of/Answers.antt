@@ -11,7 +11,7 @@ returns-in_err-body-clause-refused c =
     let p = err_from_is_err_and c.from_residual.result c.from_residual.ensures.1 in
     rw (p.1, p.2) wanting
 
-pub returns-then-len-gt-MAX_BODY-clause-refused :
-    goal.returns-then-len-gt-MAX_BODY-clause-refused
-returns-then-len-gt-MAX_BODY-clause-refused c =
+pub returns-then-len-gt-LONGEST_BODY-clause-refused :
+    goal.returns-then-len-gt-LONGEST_BODY-clause-refused
+returns-then-len-gt-LONGEST_BODY-clause-refused c =
     too_long (subst (λ b. 65536 < length b) c.in_ok-body.ensures (omega arith))

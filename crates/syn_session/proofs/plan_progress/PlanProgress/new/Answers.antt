@@ -16,7 +16,7 @@ returns-clause-begun c =
         c.args.archive.now,
         c.in-Ok.ensures.ok,
       );
-      short = omega (arith, c.len.ensures, c.if-len-gt-MAX_ITEMS.false);
+      short = omega (arith, c.len.ensures, c.if-len-gt-MOST_ITEMS.false);
       cursor = refl;
       recorded = none_recorded plan 0;
       done = nothing_counted is_carrying plan;

@@ -50,20 +50,20 @@ returns-clause-drives g c = λ pair machine stands.
     let now = (begun.0).reached in
     let went = c.go_on.ensures pair now (stands_of began pair now (begun.0).ends calm) in
     let whole = drives_whole (option_map which_of c.args.preference) began
-    c.go_on.new.coordinator c.give_up.new.coordinator pair machine
+    c.go_on.new.coordinator c.end_if_running.new.coordinator pair machine
     (messages_of c.in-Ok.sends.items) (lines c.args.self.now) (lines sent) went.0
     (outlets c.args.self.now) (outlets sent) (outlets c.go_on.new.self) begun calm told.lines
     (λ side. subst (λ sends. Writes (outlets c.args.self.now side) (outlets sent side)
     (frames_to side (messages_of sends)) (outlets sent side).goes) c.deref.ensures.value
-    (told.written side)) went.1 c.give_up.ensures.stopped
-    (λ now here. c.give_up.ensures.calls pair now here) in (
+    (told.written side)) went.1 c.end_if_running.ensures.stopped
+    (λ now here. c.end_if_running.ensures.calls pair now here) in (
       went.0,
       whole.0,
-      on_ok (Begins (option_map which_of c.args.preference) (whole.0).acts) c.give_up.result
-          whole.1,
+      on_ok (Begins (option_map which_of c.args.preference) (whole.0).acts)
+          c.end_if_running.result whole.1,
     )
 
 pub returns-clause-refused : goal.returns-clause-refused
 returns-clause-refused g c = λ pair machine stands.
-    unended c.args.coordinator.now c.give_up.new.coordinator pair machine c.give_up.result
-    c.give_up.ensures.refused
+    unended c.args.coordinator.now c.end_if_running.new.coordinator pair machine
+    c.end_if_running.result c.end_if_running.ensures.refused

@@ -2,7 +2,7 @@ use Rattle.std.proofs.Common.{[], ap, sym, ◌∙◌}
 use Rattle.syn_archive.specs.Archive.{disk_of}
 use Rattle.syn_disk.specs.Arms.{is_stopped}
 use Rattle.syn_sync.proofs.RunLemmas.{calls_none, calls_twice, stands_of}
-use Rattle.syn_sync.proofs.driver.give_up.Goals as goal
+use Rattle.syn_sync.proofs.driver.end_if_running.Goals as goal
 
 pub loop-init : goal.loop-init
 loop-init g c = record {

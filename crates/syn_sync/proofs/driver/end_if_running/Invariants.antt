@@ -2,7 +2,7 @@ use Rattle.std.proofs.Common.{◌≡◌, ℕ, [], false}
 use Rattle.syn_disk.specs.Arms.{is_stopped}
 use Rattle.syn_headline.specs.Coordinator.{CoordinatorMachine}
 use Rattle.syn_coordinator.specs.Coordinators.{Stands, device_of}
-use Rattle.syn_sync.proofs.driver.give_up.Given as goal
+use Rattle.syn_sync.proofs.driver.end_if_running.Given as goal
 use Rattle.syn_sync.specs.inner.Calling.{Calls}
 
 -- time went by so far
