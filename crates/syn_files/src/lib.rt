@@ -9,11 +9,12 @@
 //! # What it promises
 //!
 //! - A text that names no path is refused 1, or 11, whatever the disk or the server is (`edit`,
-//!   `print_path`).
+//!   `print_path`, `export`, `import`). That no other text is refused so is shown by tests alone.
 //! - `NamedDisks` locks a disk by its name, to change it or only to read it (`locked`). That lock
 //!   is held once the disk is read (`LockedDisk` of `syn_disk`: `held`). Nothing else is asked of
 //!   the disk but that it is one, so all here holds of any disks that have names.
-//! - That the disk of the line is the one that is opened is shown by tests alone.
+//! - All other calls put together what the crates below promise, and have no clause of their own.
+//!   That they do what the line asks, of the disk that it names, is shown by tests alone.
 #![tactic(auto)]
 
 mod folders;
