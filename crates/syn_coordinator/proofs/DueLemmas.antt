@@ -207,7 +207,19 @@ module _ {D : Type 0} {disk : Ghosts D} (new : Archive D disk) (pair : ℕ) (mac
       record_breaks false machine ready (has_some room) room keeps
   settled due (step.refuses why up cause is) = archive_refuses why up cause is
   settled due (is_halted halted is) = failed_before halted is
-  settled due (memory_refused is) = no_memory is
+  settled due (memory_refused ready room is) = no_memory is
+
+  -- it was not refused 11 in place of a cause that needs no memory
+  pub ready_for_memory : (due : RecordOutcome) → Records new pair machine kept (Some due) →
+      due ≡ Ends refusal.Memory → IsReady machine kept
+  ready_for_memory due (written ready room keeps) memory = ready
+  ready_for_memory due (step.breaks ready room keeps) memory = ready
+  ready_for_memory due (step.refuses why up cause is) memory = cc
+  ready_for_memory due (is_halted halted is) memory = cc
+  ready_for_memory due (memory_refused ready room is) memory = ready
+
+  pub ready_without_room : Records new pair machine kept None → IsReady machine kept
+  ready_without_room (no_room ready lacks is) = ready
 
   -- it had none, and no checkpoint was made
   pub without_room : {mid : Archive D disk} → Records mid pair machine kept None →
@@ -240,7 +252,7 @@ module _ {D : Type 0} {disk : Ghosts D} (new : Archive D disk) (pair : ℕ) (mac
           absurd (none-some _
           (sym (ready_still ready between compacts up).can.not_refused ∙ cause))
       by due (is_halted halted is) = absurd (up_or_halted up halted)
-      by due (memory_refused is) = no_memory_after between ready makes is
+      by due (memory_refused now room is) = no_memory_after between ready makes is
 
   pub still_no_room : {mid : Archive D disk} → Records mid pair machine kept None →
       (between : Journal) → nat_le greatest machine.generation ≡ false →

@@ -80,18 +80,23 @@ module _ (P : Why → Type 0) (root : P why.Root) (no_parent : P why.NoParent) (
       of_dir true = none w
       of_dir false = of_record archive.marks path empty_directory w
 
--- the marks are no cause of 8, and none of 9
+-- the marks are a cause of no other refusal, as 8, 9 and 11 are
+never : (w : Why) → why.Root ≢ w → why.NoParent ≢ w → why.Full ≢ w → why.BadMessage ≢ w →
+    (archive : model.Archive) (kept : Kept) → kept_refusal archive kept ≡ Some w → ⊥
+never w root no_parent full bad archive kept is =
+    of_kept (λ v. v ≢ w) root no_parent full bad archive kept w is refl
+
 not_room : (archive : model.Archive) (kept : Kept) →
     kept_refusal archive kept ≡ Some why.JournalFull → ⊥
-not_room archive kept is =
-    of_kept (λ w. w ≢ why.JournalFull) (λ is. cc) (λ is. cc) (λ is. cc) (λ is. cc) archive kept
-    why.JournalFull is refl
+not_room = never why.JournalFull (λ is. cc) (λ is. cc) (λ is. cc) (λ is. cc)
 
 not_device : (archive : model.Archive) (kept : Kept) →
     kept_refusal archive kept ≡ Some why.Device → ⊥
-not_device archive kept is =
-    of_kept (λ w. w ≢ why.Device) (λ is. cc) (λ is. cc) (λ is. cc) (λ is. cc) archive kept
-    why.Device is refl
+not_device = never why.Device (λ is. cc) (λ is. cc) (λ is. cc) (λ is. cc)
+
+not_memory : (archive : model.Archive) (kept : Kept) →
+    kept_refusal archive kept ≡ Some why.Memory → ⊥
+not_memory = never why.Memory (λ is. cc) (λ is. cc) (λ is. cc) (λ is. cc)
 
 -- ---- what the room is a cause of
 
@@ -212,8 +217,19 @@ module _ {D : Type 0} {disk : Ghosts D} (old : Archive D disk) (kept : Kept) whe
         | inr room ↦ room
       ]
 
-  not_for_device : keep_refusal (room_shown old) (shown old) kept ≡ Some why.Device → ⊥
-  not_for_device is = not_device (shown old) kept (by_marks why.Device (λ e. cc) is)
+  -- where the answer is no cause of its own, each cause was looked at before it
+  without_cause : (e : ArchiveError) → refusal_of e ≢ why.JournalFull →
+      (marks_cause ≡ Some (refusal_of e) → ⊥) → Refuses (Err e) → ¬ IsHalted old →
+      keep_refusal (room_shown old) (shown old) kept ≡ None
+  without_cause e other never refuse runs =
+      none_of _ (λ w some. never (by_marks (refusal_of e) other
+      (some ∙ ap (λ v. Some v) (sym (refuse w runs some)))))
+
+  -- and where it is one, it is the cause
+  cause_given : (e : ArchiveError) → (IsOutside e → ⊥) → Causes (Err e) →
+      keep_refusal (room_shown old) (shown old) kept ≡ Some (refusal_of e)
+  cause_given e inside (inl outside) = absurd (inside outside)
+  cause_given e inside (inr cause) = cause
 
 module _ {D : Type 0} {disk : Ghosts D} (old new : Archive D disk) (kept : Kept) where
   -- ---- what it is to the machine
@@ -230,17 +246,23 @@ module _ {D : Type 0} {disk : Ghosts D} (old new : Archive D disk) (kept : Kept)
               ∙ enough (room_shown old) (left_shown old) (room_left old) (shown old) kept both.1,
         )
 
-    refused_so : (e : ArchiveError) → Runs old machine →
-        kept_refusal (shown old) kept ≡ Some (refusal_of e) → IsMachine new pair machine →
-        (due : Option RecordOutcome) → RefusesFor e due → Records new pair machine kept due
-    refused_so e was cause now due for =
-        subst (Records new pair machine kept) (sym for.1)
-        (refuses for.0 was.up (ap (λ a. kept_refusal a kept) (sym is.remembers)
-        ∙ (cause ∙ ap (λ w. Some w) (sym for.2))) now)
-
     running : (w : Option Why) → ((w ≡ Some why.Halted) ↔ IsHalted old) → w ≢ Some why.Halted →
         ¬ IsHalted old
     running w halted other h = other (halted.1 h)
+
+    refused_so : (e : ArchiveError) → refusal_of e ≢ why.JournalFull → refusal_of e ≢ why.Device →
+        Some (refusal_of e) ≢ Some why.Halted →
+        keep_refusal (room_shown old) (shown old) kept ≡ Some (refusal_of e) →
+        ((Some (refusal_of e) ≡ Some why.Halted) ↔ IsHalted old) →
+        KeepsRecord new pair machine kept (Some (refusal_of e)) →
+        (due : Option RecordOutcome) → RefusesFor e due → Records new pair machine kept due
+    refused_so e room device other cause halted world due for =
+        let was = when_runs old pair machine is
+        (running (Some (refusal_of e)) halted other) in
+        subst (Records new pair machine kept) (sym for.1)
+        (refuses for.0 was.up (ap (λ a. kept_refusal a kept) (sym is.remembers)
+        ∙ (by_marks old kept (refusal_of e) room cause ∙ ap (λ w. Some w) (sym for.2)))
+        (was_refused new pair machine kept (refusal_of e) device world))
 
     pub records : (result : Result (Unit {0}) ArchiveError) → Refuses old kept result →
         Causes old kept result → IfErr result IsOfRecord →
@@ -256,51 +278,41 @@ module _ {D : Type 0} {disk : Ghosts D} (old new : Archive D disk) (kept : Kept)
     records (Err error.Device) refuse causes refusals halted world due for =
         let runs = running (Some why.Device) halted (λ e. cc) in
         let both = nothing_refuses (when_runs old pair machine is runs)
-        (none_of _ (λ w some. not_for_device old kept
-        (some ∙ ap (λ v. Some v) (sym (refuse w runs some))))) in
+        (without_cause old kept error.Device (λ e. cc) (not_device (shown old) kept) refuse runs) in
         subst (Records new pair machine kept) (sym for)
         (breaks both.0 both.1 (was_broken new pair machine kept world))
     records (Err error.JournalFull) refuse causes refusals halted world due for =
         let was = when_runs old pair machine is
         (running (Some why.JournalFull) halted (λ e. cc)) in
         let room = by_room old kept
-        (elim causes as (λ _. keep_refusal (room_shown old) (shown old) kept
-        ≡ Some why.JournalFull) [ inl none ↦ absurd none | inr cause ↦ cause ]) in
+        (cause_given old kept error.JournalFull (λ none. none) causes) in
         subst (Records new pair machine kept) (sym for)
         (no_room (is_ready old pair machine is kept was lawful room.0)
         (sym (room_is old pair machine is kept was) ∙ too_little (room_shown old)
         (left_shown old) (room_left old) (shown old) kept why.JournalFull room.1)
         (was_refused new pair machine kept why.JournalFull (λ e. cc) world))
     records (Err error.NoParent) refuse causes refusals halted world due for =
-        refused_so error.NoParent (when_runs old pair machine is
-        (running (Some why.NoParent) halted (λ e. cc)))
-        (elim causes as (λ _. kept_refusal (shown old) kept ≡ Some why.NoParent) [
-          | inl none ↦ absurd none
-          | inr cause ↦ by_marks old kept why.NoParent (λ e. cc) cause
-        ]) (was_refused new pair machine kept why.NoParent (λ e. cc) world) due for
+        refused_so error.NoParent (λ e. cc) (λ e. cc) (λ e. cc)
+        (cause_given old kept error.NoParent (λ none. none) causes) halted world due for
     records (Err error.Root) refuse causes refusals halted world due for =
-        refused_so error.Root (when_runs old pair machine is
-        (running (Some why.Root) halted (λ e. cc)))
-        (elim causes as (λ _. kept_refusal (shown old) kept ≡ Some why.Root) [
-          | inl none ↦ absurd none
-          | inr cause ↦ by_marks old kept why.Root (λ e. cc) cause
-        ]) (was_refused new pair machine kept why.Root (λ e. cc) world) due for
+        refused_so error.Root (λ e. cc) (λ e. cc) (λ e. cc)
+        (cause_given old kept error.Root (λ none. none) causes) halted world due for
     records (Err error.Full) refuse causes refusals halted world due for =
-        refused_so error.Full (when_runs old pair machine is
-        (running (Some why.Full) halted (λ e. cc)))
-        (elim causes as (λ _. kept_refusal (shown old) kept ≡ Some why.Full) [
-          | inl none ↦ absurd none
-          | inr cause ↦ by_marks old kept why.Full (λ e. cc) cause
-        ]) (was_refused new pair machine kept why.Full (λ e. cc) world) due for
+        refused_so error.Full (λ e. cc) (λ e. cc) (λ e. cc)
+        (cause_given old kept error.Full (λ none. none) causes) halted world due for
     records (Err error.Halted) refuse causes refusals halted world due for =
         subst (Records new pair machine kept)
         (sym (for.1 ∙ ap (λ w. Some (Ends w)) (halted_is for.0 for.2)))
         (is_halted (when_halted old pair machine is (halted.0 refl))
         (was_refused new pair machine kept why.Halted (λ e. cc) world))
     records (Err error.Memory) refuse causes refusals halted world due for =
+        let runs = running (Some why.Memory) halted (λ e. cc) in
+        let both = nothing_refuses (when_runs old pair machine is runs)
+        (without_cause old kept error.Memory (λ e. cc) (not_memory (shown old) kept) refuse runs) in
         subst (Records new pair machine kept)
         (sym (for.1 ∙ ap (λ w. Some (Ends w)) (memory_is for.0 for.2)))
-        (memory_refused (was_refused new pair machine kept why.Memory (λ e. cc) world))
+        (memory_refused both.0 both.1
+        (was_refused new pair machine kept why.Memory (λ e. cc) world))
     records (Err _) refuse causes refusals halted world due for = absurd refusals
 
   -- ---- what it leaves
@@ -312,6 +324,17 @@ module _ {D : Type 0} {disk : Ghosts D} (old new : Archive D disk) (kept : Kept)
     journal = elim unchanged as (λ _. journal_of new ≡ journal_of old)
         [ inl device ↦ absurd (other device) | inr same ↦ same ];
   }
+
+  refused_leaves : (e : ArchiveError) → refusal_of e ≢ why.JournalFull →
+      refusal_of e ≢ why.Device →
+      keep_refusal (room_shown old) (shown old) kept ≡ Some (refusal_of e) →
+      (refusal_of e ≡ why.Device) ⊎ (journal_of new ≡ journal_of old) → KeepsReadings old new →
+      (due : Option RecordOutcome) → RefusesFor e due → Leaves old new kept due
+  refused_leaves e room device cause unchanged readings due for =
+      subst (Leaves old new kept) (sym for.1) (
+        still (refusal_of e) device unchanged readings,
+        by_marks old kept (refusal_of e) room cause ∙ ap (λ w. Some w) (sym for.2),
+      )
 
   pub leaves : (result : Result (Unit {0}) ArchiveError) → Causes old kept result →
       IfSome (ended refusal_of result)
@@ -325,36 +348,17 @@ module _ {D : Type 0} {disk : Ghosts D} (old new : Archive D disk) (kept : Kept)
   leaves (Err error.JournalFull) causes unchanged readings due for =
       subst (Leaves old new kept) (sym for) (
         still why.JournalFull (λ e. cc) unchanged readings,
-        (by_room old kept (elim causes as (λ _. keep_refusal (room_shown old) (shown old) kept
-            ≡ Some why.JournalFull) [ inl none ↦ absurd none | inr cause ↦ cause ])).0,
+        (by_room old kept (cause_given old kept error.JournalFull (λ none. none) causes)).0,
       )
   leaves (Err error.NoParent) causes unchanged readings due for =
-      subst (Leaves old new kept) (sym for.1) (
-        still why.NoParent (λ e. cc) unchanged readings,
-        elim causes as (λ _. kept_refusal (shown old) kept ≡ Some (cause_of for.0)) [
-          | inl none ↦ absurd none
-          | inr cause ↦ by_marks old kept why.NoParent (λ e. cc) cause
-              ∙ ap (λ w. Some w) (sym for.2)
-        ],
-      )
+      refused_leaves error.NoParent (λ e. cc) (λ e. cc)
+      (cause_given old kept error.NoParent (λ none. none) causes) unchanged readings due for
   leaves (Err error.Root) causes unchanged readings due for =
-      subst (Leaves old new kept) (sym for.1) (
-        still why.Root (λ e. cc) unchanged readings,
-        elim causes as (λ _. kept_refusal (shown old) kept ≡ Some (cause_of for.0)) [
-          | inl none ↦ absurd none
-          | inr cause ↦ by_marks old kept why.Root (λ e. cc) cause
-              ∙ ap (λ w. Some w) (sym for.2)
-        ],
-      )
+      refused_leaves error.Root (λ e. cc) (λ e. cc)
+      (cause_given old kept error.Root (λ none. none) causes) unchanged readings due for
   leaves (Err error.Full) causes unchanged readings due for =
-      subst (Leaves old new kept) (sym for.1) (
-        still why.Full (λ e. cc) unchanged readings,
-        elim causes as (λ _. kept_refusal (shown old) kept ≡ Some (cause_of for.0)) [
-          | inl none ↦ absurd none
-          | inr cause ↦ by_marks old kept why.Full (λ e. cc) cause
-              ∙ ap (λ w. Some w) (sym for.2)
-        ],
-      )
+      refused_leaves error.Full (λ e. cc) (λ e. cc)
+      (cause_given old kept error.Full (λ none. none) causes) unchanged readings due for
   leaves (Err _) causes unchanged readings due for =
       subst (Leaves old new kept) (sym for.1) tt
 

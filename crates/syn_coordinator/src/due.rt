@@ -3,7 +3,7 @@ ghost use Rattle.std.specs.Prelude.{◌≡◌, ℕ, IfErr, MatchResult, option_m
 ghost use Rattle.syn_archive.specs.Archive.{SameMemory, disk_of, pair_of};
 ghost use Rattle.syn_disk.specs.Arms.{is_stopped};
 ghost use Rattle.syn_headline.specs.Machine.{Up};
-ghost use Rattle.syn_coordinator.specs.RecordOutcome.{IsAsItWas, Settles, CountsFailures};
+ghost use Rattle.syn_coordinator.specs.RecordOutcome.{IsAsItWas, IsReady, Settles, CountsFailures};
 ghost use Rattle.syn_coordinator.specs.RecordOutcome.{CountsFailuresOrStops};
 ghost use Rattle.syn_coordinator.specs.Machines.{IsMachine, Journal};
 ghost use Rattle.syn_coordinator.specs.inner.Recording.{Checkpoints, CountsFailuresIn};
@@ -60,6 +60,10 @@ pub fn keep_due<D: Disk>(
         (D.Disk.failures (disk_of archive.old)) (D.Disk.failures (disk_of archive.new)) }
     ensures refused { (why : Refusal) → result ≡ RecordOutcome.Refused why
         → IsAsItWas archive.old archive.new }
+
+    // It ends 11 only where the archive is neither halted nor refuses the record.
+    ensures memory { (pair : ℕ) (machine : Journal) → IsMachine archive.old pair machine
+        → result ≡ RecordOutcome.Ends Refusal.Memory → IsReady machine (kept_for kept.now) }
     ensures pair { pair_of archive.new ≡ pair_of archive.old }
 {
     if let Some(due) = record(alloc, archive, kept) {

@@ -47,7 +47,8 @@
 //!   `Settles`). It is recorded; or its item is refused as the archive refuses it, or 7 where no
 //!   checkpoint can be made. Or the session ends: 10 where the archive is halted, 9 for the device,
 //!   8 where a checkpoint leaves no room, and 11 for memory. With 9 it says whether the record was
-//!   sent to the disk (`Unconfirmed`) or its checkpoint failed before that (`Unsent`).
+//!   sent to the disk (`Unconfirmed`) or its checkpoint failed before that (`Unsent`). 11 comes
+//!   only where the archive is neither halted nor refuses the record (`memory`).
 //! - An item that is refused leaves the archive just as it was, with its disk (`refused`).
 //! - The count of failed device calls grows exactly where the session ends for the device, but for
 //!   a stop right after the checkpoint (`failures`). The pair stays (`pair`).

@@ -191,7 +191,7 @@ pub fn serve_within<H: Threads + Wait + Clock + Log + Sync, D: Disk + Send, G: G
     serve_shared::<H, Replica<D>, SharedReplica<D>, G>(rt, alloc, shared, listener, bounds, gates)
 }
 
-/// Names the lock of any state, so that its pools' type can, and serves the state under it.
+/// Gives the lock of a state a name, which the type of its pools carries, and serves the state.
 ///
 /// Refused as `serve` is.
 fn serve_shared<H, S, X, G>(

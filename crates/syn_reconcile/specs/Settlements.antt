@@ -22,27 +22,19 @@ settlement_of item (Some why) = Refused why
 
 abbrev pub is_done : Settlement → Bool
 is_done Done = true
-is_done Marked = false
-is_done Conflict = false
-is_done (Refused why) = false
+is_done _ = false
 
 abbrev pub is_marked : Settlement → Bool
-is_marked Done = false
 is_marked Marked = true
-is_marked Conflict = false
-is_marked (Refused why) = false
+is_marked _ = false
 
 abbrev pub is_conflict : Settlement → Bool
-is_conflict Done = false
-is_conflict Marked = false
 is_conflict Conflict = true
-is_conflict (Refused why) = false
+is_conflict _ = false
 
 abbrev pub is_refused : Settlement → Bool
-is_refused Done = false
-is_refused Marked = false
-is_refused Conflict = false
 is_refused (Refused why) = true
+is_refused _ = false
 
 -- how many of the items ended so
 abbrev pub count_ended : (Settlement → Bool) → List Settled → ℕ

@@ -59,9 +59,9 @@ pub fn journal_health<D: Disk>(
     Some(health)
 }
 
-/// Looks at the replica's journal if the lock is free. A halted replica (10) it opens again, and
-/// where the journal takes no payload of `least` bytes it makes a checkpoint. Each is done if the
-/// lock is still free, in a hold of its own.
+/// Looks at the replica's journal if the lock is free. Opens a halted replica (10) again, and makes
+/// a checkpoint where the journal takes no payload of `least` bytes. Each is done if the lock is
+/// still free, in a hold of its own.
 pub fn keep_up<D: Disk>(
     alloc: Global,
     shared: &SharedReplica<D>,

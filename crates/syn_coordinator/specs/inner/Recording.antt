@@ -59,8 +59,8 @@ pub data Records {D : Type 0} {disk : Ghosts D} (new : Archive D disk) (pair : �
       IsMachine new pair machine → Records new pair machine kept None
   is_halted : machine.status ≡ Halted → IsMachine new pair machine →
       Records new pair machine kept (Some (Ends refusal.Halted))
-  memory_refused : IsMachine new pair machine →
-      Records new pair machine kept (Some (Ends refusal.Memory))
+  memory_refused : IsReady machine kept → has_room (archive_layout pair) machine kept ≡ true →
+      IsMachine new pair machine → Records new pair machine kept (Some (Ends refusal.Memory))
 
 -- the count of failed device calls grows exactly where it was sent and not kept
 abbrev pub CountsFailuresIn : Option RecordOutcome → ℕ → ℕ → Type 0

@@ -4,8 +4,8 @@ use Rattle.syn_refusal.specs.declared.refusal.Refusal.TheVariants as refusal
 use Rattle.syn_coordinator.specs.RecordOutcome.{Settles}
 use Rattle.syn_coordinator.specs.declared.due.RecordOutcome.TheVariants.{Ends}
 use Rattle.syn_coordinator.specs.inner.Recording.{MakesRoomNow, has_made}
-use Rattle.syn_coordinator.proofs.DueLemmas.{before_room, settled, settled_after, still_no_room}
-use Rattle.syn_coordinator.proofs.DueLemmas.{without_room}
+use Rattle.syn_coordinator.proofs.DueLemmas.{before_room, ready_for_memory, ready_without_room}
+use Rattle.syn_coordinator.proofs.DueLemmas.{settled, settled_after, still_no_room, without_room}
 use Rattle.syn_coordinator.proofs.due.keep_due.Goals as goal
 
 pub returns-in-Some-clause-settles : goal.returns-in-Some-clause-settles
@@ -48,3 +48,23 @@ returns-in-None-clause-settles g c pair machine is =
         still_no_room c.record-2.new.archive pair machine (kept_for c.args.kept.now)
         (c.in_default.ensures.records pair machine is) between less compacts up
         (c.in-None.ensures.records pair between now)
+
+pub returns-in-Some-clause-memory : goal.returns-in-Some-clause-memory
+returns-in-Some-clause-memory g c pair machine is memory =
+    ready_for_memory c.record.new.archive pair machine (kept_for c.args.kept.now) c.in-Some.due
+    (c.in-Some.ensures.records pair machine is) memory
+
+pub returns-in-Err-clause-memory : goal.returns-in-Err-clause-memory
+returns-in-Err-clause-memory g c pair machine is memory =
+    ready_without_room c.record.new.archive pair machine (kept_for c.args.kept.now)
+    (c.in_default.ensures.records pair machine is)
+
+pub returns-in-Some-record-clause-memory : goal.returns-in-Some-record-clause-memory
+returns-in-Some-record-clause-memory g c pair machine is memory =
+    ready_without_room c.record.new.archive pair machine (kept_for c.args.kept.now)
+    (c.in_default.ensures.records pair machine is)
+
+pub returns-in-None-clause-memory : goal.returns-in-None-clause-memory
+returns-in-None-clause-memory g c pair machine is memory =
+    ready_without_room c.record.new.archive pair machine (kept_for c.args.kept.now)
+    (c.in_default.ensures.records pair machine is)
