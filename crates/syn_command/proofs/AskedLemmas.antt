@@ -21,7 +21,7 @@ use Rattle.syn_scan.specs.Found.{Found, position_of, scan_of}
 use Rattle.syn_session.specs.Scanning.{Exchanges, IsFoundIn, WaitsFor, WasListedAt}
 use Rattle.syn_session.specs.Scanning.{WasNoDirectoryAt, found_of, out_of, with_listing_answered}
 use Rattle.syn_session.specs.declared.side_scan.SideScan.{SideScan}
-use Rattle.syn_user.specs.Sides.{IsReplied, SideLine}
+use Rattle.syn_user.specs.Sides.{IsReplied, SideState}
 use Rattle.syn_session.proofs.WaitingLemmas.{contains_out}
 
 -- a reply that was taken was given
@@ -39,7 +39,7 @@ given side (one ∷ more) number path reply (suc i, within, is) =
     (suc rest.0, omega (arith, rest.1), rest.2)
 
 -- one reply more
-gave_more : (old now new : SideLine) (replies : Replies) (path : Path) (reply : Reply)
+gave_more : (old now new : SideState) (replies : Replies) (path : Path) (reply : Reply)
     → GaveReplies old replies now → IsReplied now new (ListAt path) reply
     → GaveReplies old (replies ++ (path, reply) ∷ []) new
 gave_more old now new [] path reply gave one =
@@ -48,11 +48,12 @@ gave_more old now new (first ∷ more) path reply (between, is, rest) one =
     (between, is, gave_more between now new more path reply rest one)
 
 -- as many replies were taken
-pub record AskedTimes (old : SideLine) (scan : SideScan) (now : SideLine) (times : ℕ) : Type 0 where
+pub record AskedTimes (old : SideState) (scan : SideScan) (now : SideState)
+    (times : ℕ) : Type 0 where
   pub asked : IsAsked old scan now
   pub count : length asked.replies ≡ times
 
-pub none_asked : (side : SideLine) (scan : SideScan)
+pub none_asked : (side : SideState) (scan : SideScan)
     → ((which : Which) → IsFoundIn (found_of scan) which []) → out_of scan ≡ []
     → AskedTimes side scan side 0
 none_asked side scan found out = record {
@@ -73,7 +74,8 @@ waits scan asked path none out =
     (0, omega arith, refl))
 
 -- and the reply to it was taken
-pub one_asked : (old now new : SideLine) (scan asked taken : SideScan) (path : Path) (reply : Reply)
+pub one_asked : (old now new : SideState) (scan asked taken : SideScan) (path : Path)
+    (reply : Reply)
     (times : ℕ) → AskedTimes old scan now times → found_of asked ≡ found_of scan
     → out_of asked ≡ handed_out (out_of scan) (Some path) → IsReplied now new (ListAt path) reply
     → ((side : Which) (before : Exchanges) → WaitsFor asked path
@@ -108,7 +110,7 @@ one_asked old now new scan asked taken path reply times has same out gave takes 
     none_left = ap (λ b. cond (not b) (path ∷ []) []) (path_itself path)
 
 -- the next listing is refused, or the reply to it ends a session, or too many were asked
-module _ (old now new : SideLine) (scan : SideScan)
+module _ (old now new : SideState) (scan : SideScan)
     (times : ℕ) (has : AskedTimes old scan now times) (why : Refusal) where
   pub refused_so : (path : Path) → IsUnlisted now new path why
       → NotScanned old why new
@@ -136,7 +138,7 @@ module _ (old now new : SideLine) (scan : SideScan)
       (subst (λ n. most_nodes < n) (sym has.count) many) is
 
 -- the scan that it is then
-pub scanned : (old new : SideLine) (scan : SideScan) (shown : Found)
+pub scanned : (old new : SideState) (scan : SideScan) (shown : Found)
     → IsAsked old scan new → ((side : Which) (taken : Exchanges)
     → IsFoundIn (found_of scan) side taken
     → IsScanBy (WasListedAt taken side) (WasNoDirectoryAt taken side) (scan_of shown)

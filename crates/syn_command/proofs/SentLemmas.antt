@@ -10,9 +10,9 @@ use Rattle.syn_model.specs.Event.{Edit}
 use Rattle.syn_tree.specs.Edits.{edit_of}
 use Rattle.syn_tree.specs.declared.edit.Edit.{Edit as Planned}
 use Rattle.syn_user.specs.Exchanges.{IsTold}
-use Rattle.syn_user.specs.Lines.{Line}
+use Rattle.syn_user.specs.States.{ConnectionState}
 
-pub one_more_made : (user position last : ℕ) (old between new : Line) (edits : List Edit)
+pub one_more_made : (user position last : ℕ) (old between new : ConnectionState) (edits : List Edit)
     (edit : Edit) → position + length edits ≡ last → AreMadeInTurn user old position edits between
     → IsTold between new (Edits user edit) (Edited (last + 1))
     → AreMadeInTurn user old position (edits ++ edit ∷ []) new
@@ -31,7 +31,7 @@ one_more_made user position last old between new (first ∷ more) edit at (middl
 )
 
 -- the edits end at the one after those that were made
-pub ends_at : (user position last : ℕ) (old between new : Line) (front : List Planned)
+pub ends_at : (user position last : ℕ) (old between new : ConnectionState) (front : List Planned)
     (edit : Planned) (rest all : List Planned) (error : CommandError) → all ≡ front ++ edit ∷ rest
     → last ≡ position + length front
     → AreMadeInTurn user old position (map edit_of front) between

@@ -9,7 +9,7 @@ ghost use Rattle.syn_refusal.specs.Refusals.{cause_of};
 ghost use Rattle.syn_command.specs.Listings.{IsScanned, IsUnlisted, NotScanned};
 ghost use Rattle.syn_recon.specs.Items.{items_of};
 ghost use Rattle.syn_scan.specs.Found.{scan_of};
-ghost use Rattle.syn_user.specs.Sides.{IsReplied, side_line};
+ghost use Rattle.syn_user.specs.Sides.{IsReplied, side_state};
 
 use std::alloc::Global;
 use std::io::{Read, Write};
@@ -39,18 +39,18 @@ pub fn plan_between<R: Read, W: Write>(
         ≡ plan (option_map which_of preference) (scan_of compared.left) (scan_of compared.right)
         archive.now) }
     ensures left { IfOk result (λ compared.
-        IsScanned (side_line R.remaining W.contents left.old) compared.left
-        (side_line R.remaining W.contents left.new)) }
+        IsScanned (side_state R.remaining W.contents left.old) compared.left
+        (side_state R.remaining W.contents left.new)) }
     ensures right { IfOk result (λ compared.
-        IsScanned (side_line R.remaining W.contents right.old) compared.right
-        (side_line R.remaining W.contents right.new)) }
+        IsScanned (side_state R.remaining W.contents right.old) compared.right
+        (side_state R.remaining W.contents right.new)) }
 
     // Which side is not scanned, and why. The right is asked nothing where the left is not.
     ensures cause { IfErr result (λ why. (cause_of why ≡ Memory)
-        ⊎ ((NotScanned (side_line R.remaining W.contents left.old) (cause_of why)
-        (side_line R.remaining W.contents left.new) × (right.new ≡ right.old))
-        ⊎ NotScanned (side_line R.remaining W.contents right.old) (cause_of why)
-        (side_line R.remaining W.contents right.new))) }
+        ⊎ ((NotScanned (side_state R.remaining W.contents left.old) (cause_of why)
+        (side_state R.remaining W.contents left.new) × (right.new ≡ right.old))
+        ⊎ NotScanned (side_state R.remaining W.contents right.old) (cause_of why)
+        (side_state R.remaining W.contents right.new))) }
 {
     let left = scan_side(alloc, left)?;
     let right = scan_side(alloc, right)?;
@@ -66,11 +66,11 @@ fn scan_side<R: Read, W: Write>(
     side: &mut SideConnection<R, W>,
 ) -> Result<Scan, Refusal>
     ensures scanned { IfOk result (λ scan.
-        IsScanned (side_line R.remaining W.contents side.old) scan
-        (side_line R.remaining W.contents side.new)) }
+        IsScanned (side_state R.remaining W.contents side.old) scan
+        (side_state R.remaining W.contents side.new)) }
     ensures cause { IfErr result (λ why. (cause_of why ≡ Memory)
-        ⊎ NotScanned (side_line R.remaining W.contents side.old) (cause_of why)
-        (side_line R.remaining W.contents side.new)) }
+        ⊎ NotScanned (side_state R.remaining W.contents side.old) (cause_of why)
+        (side_state R.remaining W.contents side.new)) }
 {
     let Ok(mut scan) = SideScan::new(alloc) else {
         return Err(Refusal::Memory);
@@ -96,10 +96,10 @@ fn list_side<R: Read, W: Write>(
     path: &Path,
 ) -> Result<Reply, Refusal>
     ensures lawful { IfOk result (λ reply. IsLawfulReply (reply_of reply)) }
-    ensures listed { IfOk result (λ reply. IsReplied (side_line R.remaining W.contents side.old)
-        (side_line R.remaining W.contents side.new) (ListAt path.now) (reply_of reply)) }
-    ensures refused { IfErr result (λ why. IsUnlisted (side_line R.remaining W.contents side.old)
-        (side_line R.remaining W.contents side.new) path.now (cause_of why)) }
+    ensures listed { IfOk result (λ reply. IsReplied (side_state R.remaining W.contents side.old)
+        (side_state R.remaining W.contents side.new) (ListAt path.now) (reply_of reply)) }
+    ensures refused { IfErr result (λ why. IsUnlisted (side_state R.remaining W.contents side.old)
+        (side_state R.remaining W.contents side.new) path.now (cause_of why)) }
 {
     side.list(alloc, path).map_err(|error| error.refusal())
 }

@@ -2,7 +2,7 @@
 ghost use Rattle.std.specs.Prelude.{◌≡◌, ◌≢◌, ◌+◌, length, map, IfErr, IfOk, OnOk};
 ghost use Rattle.syn_command.specs.Sent.{AreMadeInPart, AreMadeInTurn};
 ghost use Rattle.syn_tree.specs.Edits.{edit_of};
-ghost use Rattle.syn_user.specs.Lines.{line_of};
+ghost use Rattle.syn_user.specs.States.{state_of};
 
 use crate::error::CommandError;
 use crate::progress_mode::{ProgressMode, edit_line};
@@ -29,11 +29,11 @@ pub fn send_edits<R: Read, W: Write, E: Write>(
 ) -> Result<u64, CommandError>
     ensures last { IfOk result (λ last. last ≡ position + length edits.items) }
     ensures made { OnOk result (AreMadeInTurn user
-        (line_of R.remaining W.contents connection.old) position (map edit_of edits.items)
-        (line_of R.remaining W.contents connection.new)) }
+        (state_of R.remaining W.contents connection.old) position (map edit_of edits.items)
+        (state_of R.remaining W.contents connection.new)) }
     ensures stopped { IfErr result (AreMadeInPart user
-        (line_of R.remaining W.contents connection.old) position (map edit_of edits.items)
-        (line_of R.remaining W.contents connection.new)) }
+        (state_of R.remaining W.contents connection.old) position (map edit_of edits.items)
+        (state_of R.remaining W.contents connection.new)) }
 {
     let sent = send_each(alloc, connection, user, position, edits, progress, errors);
     progress.end(errors);
@@ -52,11 +52,11 @@ fn send_each<R: Read, W: Write, E: Write>(
 ) -> Result<u64, CommandError>
     ensures last { IfOk result (λ last. last ≡ position + length edits.items) }
     ensures made { OnOk result (AreMadeInTurn user
-        (line_of R.remaining W.contents connection.old) position (map edit_of edits.items)
-        (line_of R.remaining W.contents connection.new)) }
+        (state_of R.remaining W.contents connection.old) position (map edit_of edits.items)
+        (state_of R.remaining W.contents connection.new)) }
     ensures stopped { IfErr result (AreMadeInPart user
-        (line_of R.remaining W.contents connection.old) position (map edit_of edits.items)
-        (line_of R.remaining W.contents connection.new)) }
+        (state_of R.remaining W.contents connection.old) position (map edit_of edits.items)
+        (state_of R.remaining W.contents connection.new)) }
 {
     let all = edits.len();
     let mut count: usize = 0;

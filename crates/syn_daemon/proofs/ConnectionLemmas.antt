@@ -7,20 +7,20 @@ use Rattle.syn_disk.specs.declared.disk.Disk.{Ghosts}
 use Rattle.syn_link.specs.Frames.{Bytes}
 use Rattle.syn_lock.specs.declared.error.LockError.{LockError}
 use Rattle.syn_lock.specs.declared.error.LockError.TheVariants.{Busy, Memory, NoSeat}
-use Rattle.syn_serve.specs.Lines.{Line}
+use Rattle.syn_serve.specs.States.{ConnectionState}
 use Rattle.syn_serve.specs.Servings.{WasServed}
 use Rattle.syn_serve.specs.declared.error.ServeError.{ServeError}
 use Rattle.syn_shared.specs.Workers.{IsDone, IsNotDone}
 
--- of the line that the connection was at first
-pub record IsFirst (given written : Option Bytes) (line : Line) : Type 0 where
-  pub given_first : line.given ≡ given
-  pub held_first : line.held ≡ []
-  pub staged_first : staging_of line.agent ≡ None
-  pub written_first : line.written ≡ written
+-- of the state that the connection was at first
+pub record IsFirst (given written : Option Bytes) (state : ConnectionState) : Type 0 where
+  pub given_first : state.given ≡ given
+  pub held_first : state.held ≡ []
+  pub staged_first : staging_of state.agent ≡ None
+  pub written_first : state.written ≡ written
 
 module _ (D : Type 0) (disk : Ghosts D) (given written : Option Bytes) where
-  whole : (first last : Line) (answer : Option (Result Unit ServeError))
+  whole : (first last : ConnectionState) (answer : Option (Result Unit ServeError))
       → IsFirst given written first → WasServed D disk first last answer
       → IsSomeAnd answer (WasServedWhole D disk given written)
   whole first last answer fresh served =
@@ -37,15 +37,15 @@ module _ (D : Type 0) (disk : Ghosts D) (given written : Option Bytes) where
         served = subst Q served.ended_so served;
       })
 
-  module _ {W : Type 0} (line : W → Line) (ended : W → Option (Result Unit ServeError))
+  module _ {W : Type 0} (state : W → ConnectionState) (ended : W → Option (Result Unit ServeError))
       (old new : W) where
     abbrev pub Serves : W → W → Type 0
-    Serves a b = WasServed D disk (line a) (line b) (ended b)
+    Serves a b = WasServed D disk (state a) (state b) (ended b)
 
-    done : (r : Result Unit LockError) → IsFirst given written (line old)
+    done : (r : Result Unit LockError) → IsFirst given written (state old)
         → IsDone Serves old new r → IsSomeAnd (ended new) (WasServedWhole D disk given written)
-    done (Ok x) fresh served = whole (line old) (line new) (ended new) fresh served
-    done (Err Memory) fresh served = whole (line old) (line new) (ended new) fresh served
+    done (Ok x) fresh served = whole (state old) (state new) (ended new) fresh served
+    done (Err Memory) fresh served = whole (state old) (state new) (ended new) fresh served
     done (Err NoSeat) fresh served = absurd served
     done (Err Busy) fresh served = absurd served
 
@@ -58,7 +58,7 @@ module _ (D : Type 0) (disk : Ghosts D) (given written : Option Bytes) where
 
     pub served_whole : {P : Type 0} (drawn : Option P) (r : Result Unit LockError)
         (answer : Option (Result Unit ServeError)) → answer ≡ ended new → ended old ≡ None
-        → IsFirst given written (line old)
+        → IsFirst given written (state old)
         → MatchOption drawn (IsNotDone old new r) (λ p. IsDone Serves old new r)
         → MatchOption drawn (answer ≡ None)
         (λ p. IsSomeAnd answer (WasServedWhole D disk given written))

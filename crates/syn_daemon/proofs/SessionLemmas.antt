@@ -10,7 +10,7 @@ use Rattle.syn_refusal.specs.declared.refusal.Refusal.{Refusal as Answer}
 use Rattle.syn_coordinator.specs.Coordinators.{Stands}
 use Rattle.syn_coordinator.specs.declared.coordinator.Coordinator.{Coordinator}
 use Rattle.syn_sync.proofs.WriteLemmas.{writes_nothing}
-use Rattle.syn_sync.specs.Drivers.{Lines, Outlets}
+use Rattle.syn_sync.specs.Drivers.{ConnectionStates, Outlets}
 use Rattle.syn_sync.specs.Refusals.{Refuses}
 use Rattle.syn_model.specs.Which.{Which}
 
@@ -21,10 +21,10 @@ module _ {D : Type 0} {disk : Ghosts D} where
       (why : Answer) → Stands coordinator pair machine
       → DrivesSession preference coordinator pair machine (Err why)
   untouched coordinator pair machine why stands =
-      let lines : Lines = λ side. record { given = None; held = [] } in
+      let states : ConnectionStates = λ side. record { given = None; held = [] } in
       let outlets : Outlets = λ side. record { written = None; goes = false } in record {
-        lines = lines;
-        heard = lines;
+        states = states;
+        heard = states;
         from = outlets;
         to = outlets;
         drives = record {

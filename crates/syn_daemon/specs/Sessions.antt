@@ -5,7 +5,7 @@ use Rattle.syn_headline.specs.Coordinator.{CoordinatorMachine}
 use Rattle.syn_model.specs.Refusal.{Busy, Device, Memory, Refusal}
 use Rattle.syn_refusal.specs.declared.refusal.Refusal.{Refusal as Answer}
 use Rattle.syn_coordinator.specs.declared.coordinator.Coordinator.{Coordinator}
-use Rattle.syn_sync.specs.Drivers.{Lines, Outlets}
+use Rattle.syn_sync.specs.Drivers.{ConnectionStates, Outlets}
 use Rattle.syn_sync.specs.Refusals.{Refuses}
 use Rattle.syn_sync.specs.Runs.{Begins, Drives}
 use Rattle.syn_model.specs.Which.{Which}
@@ -15,11 +15,11 @@ module _ {D : Type 0} {disk : Ghosts D} where
   -- preference
   pub record DrivesSession (preference : Option Which) (new : Coordinator D disk) (pair : ℕ)
       (machine : CoordinatorMachine) (result : Result Unit Answer) : Type 0 where
-    pub lines : Lines
-    pub heard : Lines
+    pub states : ConnectionStates
+    pub heard : ConnectionStates
     pub from : Outlets
     pub to : Outlets
-    pub drives : Drives new pair machine lines heard from to
+    pub drives : Drives new pair machine states heard from to
     pub begins : OnOk result (Begins preference drives.acts)
 
   -- A side was not reached, or both are one server, and the coordinator stays as it was; or the

@@ -3,8 +3,8 @@ pub mod Arms
 pub mod Calls
 pub mod Cut
 pub mod Disk
-pub mod SimulatedHalf
-pub mod Halves
+pub mod SimulatedPart
+pub mod Parts
 pub mod MemDisk
 pub mod MomentLaws
 pub mod Moments

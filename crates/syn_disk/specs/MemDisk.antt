@@ -1,7 +1,7 @@
 -- What a disk in memory shows.
 use Rattle.std.specs.Prelude.{◌≡◌, ℕ, Bool, false, List, drop, length}
 use Rattle.syn_disk.specs.Disk.{Elapses}
-use Rattle.syn_disk.specs.Halves.{HalvesMayLeave, both_contents, both_synced, both_written}
+use Rattle.syn_disk.specs.Parts.{PartsMayLeave, both_contents, both_synced, both_written}
 use Rattle.syn_disk.specs.Moments.{MayLeave, LeftSince}
 use Rattle.syn_disk.specs.Written.{is_written}
 use Rattle.syn_disk.specs.declared.simulated.leaves.Leaves.{Leaves}
@@ -37,7 +37,7 @@ moment_of disk = length disk.history
 
 -- what a stop since a moment might have left
 abbrev pub WasLeft : MemDisk → ℕ → List ℕ → Type 0
-WasLeft disk = LeftSince HalvesMayLeave disk.history (disk.low, disk.high)
+WasLeft disk = LeftSince PartsMayLeave disk.history (disk.low, disk.high)
 
 abbrev pub GoesOn : MemDisk → MemDisk → Type 0
 GoesOn old new = Elapses (moment_of old) (moment_of new) (WasLeft old) (WasLeft new) (IsLeft new)

@@ -5,30 +5,30 @@ use Rattle.syn_disk.specs.Moments.{MayLeave}
 use Rattle.syn_disk.specs.Padded.{padded}
 use Rattle.syn_disk.specs.Extent.{is_in_some}
 use Rattle.syn_disk.specs.PaddedLaws.{length-padded}
-use Rattle.syn_disk.specs.declared.disk.TheConstants.{DISK_SIZE, HALF_SIZE}
+use Rattle.syn_disk.specs.declared.disk.TheConstants.{DISK_SIZE, PART_SIZE}
 use Rattle.syn_disk.specs.declared.file.disk_bytes.DiskBytes.{DiskBytes}
-use Rattle.syn_disk.specs.declared.file.disk_bytes.HalfBytes.{HalfBytes}
+use Rattle.syn_disk.specs.declared.file.disk_bytes.PartBytes.{PartBytes}
 
--- the bytes of half a disk
-abbrev pub half_of : HalfBytes → List ℕ
-half_of part = padded part.used.items HALF_SIZE 0
+-- the bytes of a part of a disk
+abbrev pub part_of : PartBytes → List ℕ
+part_of part = padded part.used.items PART_SIZE 0
 
 abbrev pub bytes_of : DiskBytes → List ℕ
-bytes_of image = half_of image.low ++ half_of image.high
+bytes_of image = part_of image.low ++ part_of image.high
 
 -- of a file with these bytes, of which the ranges were written since the last sync
 abbrev pub FileMayLeave : DiskBytes × List (ℕ × ℕ) → List ℕ → Type 0
 FileMayLeave moment = MayLeave (bytes_of moment.0) (is_in_some moment.1)
 
-pub length-half : (part : HalfBytes) → length (half_of part) ≡ HALF_SIZE
-length-half part = length-padded 0 part.used.items HALF_SIZE part.fits
+pub length-part : (part : PartBytes) → length (part_of part) ≡ PART_SIZE
+length-part part = length-padded 0 part.used.items PART_SIZE part.fits
 
 pub length-bytes : (image : DiskBytes) → length (bytes_of image) ≡ DISK_SIZE
 length-bytes image =
     omega (
       arith,
-      length-append (half_of image.low)
-          (half_of image.high),
-      length-half image.low,
-      length-half image.high,
+      length-append (part_of image.low)
+          (part_of image.high),
+      length-part image.low,
+      length-part image.high,
     )

@@ -8,7 +8,7 @@ ghost use Rattle.syn_disk.specs.Disk.{CountsFailure};
 pub const DISK_SIZE: usize = 8_388_608;
 
 /// The number of bytes of each of the two parts in which memory for a disk is taken.
-pub const HALF_SIZE: usize = 4_194_304;
+pub const PART_SIZE: usize = 4_194_304;
 
 /// A device call failed, which the layers above answer as refusal 9.
 #[derive(Clone, Copy, Debug, PartialEq, Eq)]

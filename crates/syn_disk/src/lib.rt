@@ -61,7 +61,7 @@ mod file;
 mod history;
 mod simulated;
 
-pub use disk::{DISK_SIZE, DeviceFailed, Disk, HALF_SIZE};
+pub use disk::{DISK_SIZE, DeviceFailed, Disk, PART_SIZE};
 pub use error::OpenError;
 pub use file::host::{Access, OsFile, take_lock};
 pub use file::locked::{LockedDisk, LockedFile};

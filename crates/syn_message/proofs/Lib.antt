@@ -1,10 +1,10 @@
-mod AnsweringLemmas
-mod AskingLemmas
+mod ReplyLemmas
+mod RequestLemmas
 mod HeadLemmas
 mod KindLemmas
 mod ListingLemmas
 mod RefusalLemmas
-mod TellingLemmas
+mod UserReplyLemmas
 mod WholeLemmas
-mod WishLemmas
-mod WishedLemmas
+mod UserRequestFieldsLemmas
+mod UserRequestLemmas

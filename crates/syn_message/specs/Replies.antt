@@ -10,7 +10,7 @@ use Rattle.syn_message.specs.Bodies.{ReadsWhole, body_spelling}
 use Rattle.syn_message.specs.Listings.{IsListing, entries_of, entries_spelling}
 use Rattle.syn_message.specs.declared.kind.TheConstants.{BEGUN, LISTED, NOT_DIR, PIECE, STAGED}
 use Rattle.syn_message.specs.declared.kind.TheConstants.{DONE, REFUSED}
-use Rattle.syn_message.specs.declared.reply.ReplyMessage.{ReplyMessage}
+use Rattle.syn_message.specs.declared.reply.ReplyMessage.{ReplyMessage as Coded}
 use Rattle.syn_message.specs.declared.reply.Reply.{Reply}
 use Rattle.syn_message.specs.declared.reply.Reply.TheVariants as has
 use Rattle.syn_refusal.specs.Refusals.{cause_of}
@@ -28,13 +28,13 @@ reply_of has.Done = model.Done
 reply_of (has.Refused why) = model.Refused (cause_of why)
 
 -- a reply with the session and the number of its request
-pub record Answering : Type 0 where
+pub record ReplyMessage : Type 0 where
   pub session : ℕ
   pub number : ℕ
   pub reply : model.Reply
 
-abbrev pub answering_of : ReplyMessage → Answering
-answering_of answered = record {
+abbrev pub reply_message_of : Coded → ReplyMessage
+reply_message_of answered = record {
   session = answered.session;
   number = answered.number;
   reply = reply_of answered.reply;
@@ -59,9 +59,9 @@ reply_fields model.Staged = []
 reply_fields model.Done = []
 reply_fields (model.Refused why) = number why ∷ []
 
-abbrev pub answering_spelling : Answering → Bytes
-answering_spelling answering = body_spelling (reply_kind answering.reply) answering.session
-    answering.number (reply_fields answering.reply)
+abbrev pub reply_spelling : ReplyMessage → Bytes
+reply_spelling answered = body_spelling (reply_kind answered.reply) answered.session
+    answered.number (reply_fields answered.reply)
 
 -- what is fetched at a time
 abbrev pub IsFetchedBytes : Bytes → Type 0
@@ -78,11 +78,11 @@ IsLawfulReply model.Done = Unit {0}
 IsLawfulReply (model.Refused why) = Unit {0}
 
 -- Sessions count from 1: the reply to a user has the session 0.
-pub record IsLawfulAnswering (answering : Answering) : Type 0 where
-  pub session : answering.session < 2 ^ 64
-  pub begun : 0 < answering.session
-  pub number : answering.number < 2 ^ 32
-  pub reply : IsLawfulReply answering.reply
+pub record IsLawfulReplyMessage (answered : ReplyMessage) : Type 0 where
+  pub session : answered.session < 2 ^ 64
+  pub begun : 0 < answered.session
+  pub number : answered.number < 2 ^ 32
+  pub reply : IsLawfulReply answered.reply
 
 -- the same of the fields of a kind
 abbrev pub IsReplyOf : ℕ → model.Reply → Type 0

@@ -6,7 +6,7 @@ use Rattle.syn_headline.specs.Side as model
 use Rattle.syn_model.specs.Path.{Bytes, path_spelling}
 use Rattle.syn_message.specs.Bodies.{ReadsWhole, body_spelling}
 use Rattle.syn_message.specs.declared.kind.TheConstants.{BEGIN, LIST, FETCH, STAGE, REPLACE}
-use Rattle.syn_message.specs.declared.request.RequestMessage.{RequestMessage}
+use Rattle.syn_message.specs.declared.request.RequestMessage.{RequestMessage as Coded}
 use Rattle.syn_message.specs.declared.request.Request.{Request}
 use Rattle.syn_message.specs.declared.request.Request.TheVariants as has
 use Rattle.syn_wire.specs.Events.{file_spelling}
@@ -21,13 +21,13 @@ request_of (has.Stage item offset piece) = model.Stage item offset piece
 request_of (has.Replace item path since size) = model.Replace item path since size
 
 -- a request with its session and its number in it
-pub record Asking : Type 0 where
+pub record RequestMessage : Type 0 where
   pub session : ℕ
   pub number : ℕ
   pub request : model.Request
 
-abbrev pub asking_of : RequestMessage → Asking
-asking_of asked =
+abbrev pub request_message_of : Coded → RequestMessage
+request_message_of asked =
     record { session = asked.session; number = asked.number; request = request_of asked.request }
 
 abbrev pub kind_of : model.Request → ℕ
@@ -49,16 +49,16 @@ fields_spelling (model.Replace item path since size) =
     to_be_bytes w32 item ++ (path_spelling path ++ (to_be_bytes w64 since ++ to_be_bytes w32 size))
 
 -- a kind, a session, a number, and what the request has
-abbrev pub asking_spelling : Asking → Bytes
-asking_spelling asking = body_spelling (kind_of asking.request) asking.session asking.number
-    (fields_spelling asking.request)
+abbrev pub request_spelling : RequestMessage → Bytes
+request_spelling asked = body_spelling (kind_of asked.request) asked.session asked.number
+    (fields_spelling asked.request)
 
 -- Sessions count from 1: a user's request has the session 0.
-pub record IsLawfulAsking (asking : Asking) : Type 0 where
-  pub session : asking.session < 2 ^ 64
-  pub begun : 0 < asking.session
-  pub number : asking.number < 2 ^ 32
-  pub body : IsLawfulBody asking.request
+pub record IsLawfulRequestMessage (asked : RequestMessage) : Type 0 where
+  pub session : asked.session < 2 ^ 64
+  pub begun : 0 < asked.session
+  pub number : asked.number < 2 ^ 32
+  pub body : IsLawfulBody asked.request
 
 -- the same of the fields of a kind
 abbrev pub IsOfKind : ℕ → model.Request → Type 0

@@ -9,36 +9,37 @@ use Rattle.syn_model.specs.Refusal.{Refusal, number}
 use Rattle.syn_model.specs.Tree.{Content, Directory, File}
 use Rattle.syn_message.specs.Bodies.{ReadsWhole, body_spelling}
 use Rattle.syn_message.specs.declared.kind.TheConstants.{EDITED, GOT, REFUSED}
-use Rattle.syn_message.specs.declared.user_reply.UserReplyMessage.{UserReplyMessage}
-use Rattle.syn_message.specs.declared.user_reply.UserReply.{UserReply}
+use Rattle.syn_message.specs.declared.user_reply.UserReplyMessage.{UserReplyMessage as CodedMessage}
+use Rattle.syn_message.specs.declared.user_reply.UserReply.{UserReply as Coded}
 use Rattle.syn_message.specs.declared.user_reply.UserReply.TheVariants as has
 use Rattle.syn_refusal.specs.Refusals.{cause_of}
 use Rattle.syn_tree.specs.Contents.{content_of}
 use Rattle.syn_wire.specs.declared.error.ReadError.{ReadError}
 
 -- what a user is told
-pub data Told : Type 0 where
-  Edited : (position : ℕ) → Told
-  Got : (found : Option Content) → Told
-  Refused : (why : Refusal) → Told
+pub data UserReply : Type 0 where
+  Edited : (position : ℕ) → UserReply
+  Got : (found : Option Content) → UserReply
+  Refused : (why : Refusal) → UserReply
 
-abbrev pub told_of : UserReply → Told
-told_of (has.Edited position) = Edited position
-told_of (has.Got found) = Got (option_map content_of found)
-told_of (has.Refused why) = Refused (cause_of why)
+abbrev pub user_reply_of : Coded → UserReply
+user_reply_of (has.Edited position) = Edited position
+user_reply_of (has.Got found) = Got (option_map content_of found)
+user_reply_of (has.Refused why) = Refused (cause_of why)
 
 -- with the number of the request
-pub record Telling : Type 0 where
+pub record UserReplyMessage : Type 0 where
   pub number : ℕ
-  pub told : Told
+  pub reply : UserReply
 
-abbrev pub telling_of : UserReplyMessage → Telling
-telling_of answered = record { number = answered.number; told = told_of answered.reply }
+abbrev pub user_reply_message_of : CodedMessage → UserReplyMessage
+user_reply_message_of answered = record
+    { number = answered.number; reply = user_reply_of answered.reply }
 
-abbrev pub told_kind : Told → ℕ
-told_kind (Edited position) = EDITED
-told_kind (Got found) = GOT
-told_kind (Refused why) = REFUSED
+abbrev pub user_reply_kind : UserReply → ℕ
+user_reply_kind (Edited position) = EDITED
+user_reply_kind (Got found) = GOT
+user_reply_kind (Refused why) = REFUSED
 
 -- nothing, a file with its bytes, or a directory
 abbrev pub found_spelling : Option Content → Bytes
@@ -46,14 +47,15 @@ found_spelling None = 0 ∷ []
 found_spelling (Some (File contents)) = 1 ∷ contents_spelling contents
 found_spelling (Some Directory) = 2 ∷ []
 
-abbrev pub told_fields : Told → Bytes
-told_fields (Edited position) = to_be_bytes w64 position
-told_fields (Got found) = found_spelling found
-told_fields (Refused why) = number why ∷ []
+abbrev pub user_reply_fields : UserReply → Bytes
+user_reply_fields (Edited position) = to_be_bytes w64 position
+user_reply_fields (Got found) = found_spelling found
+user_reply_fields (Refused why) = number why ∷ []
 
-abbrev pub telling_spelling : Telling → Bytes
-telling_spelling telling =
-    body_spelling (told_kind telling.told) 0 telling.number (told_fields telling.told)
+abbrev pub user_reply_spelling : UserReplyMessage → Bytes
+user_reply_spelling answered =
+    body_spelling (user_reply_kind answered.reply) 0 answered.number
+    (user_reply_fields answered.reply)
 
 -- a file within the limit of each file
 abbrev pub IsWithinFile : Contents → Type 0
@@ -64,18 +66,18 @@ IsFound None = Unit {0}
 IsFound (Some (File contents)) = IsWithinFile contents
 IsFound (Some Directory) = Unit {0}
 
-abbrev pub IsLawfulTold : Told → Type 0
-IsLawfulTold (Edited position) = position < 2 ^ 64
-IsLawfulTold (Got found) = IsFound found
-IsLawfulTold (Refused why) = Unit {0}
+abbrev pub IsLawfulUserReply : UserReply → Type 0
+IsLawfulUserReply (Edited position) = position < 2 ^ 64
+IsLawfulUserReply (Got found) = IsFound found
+IsLawfulUserReply (Refused why) = Unit {0}
 
-pub record IsLawfulTelling (telling : Telling) : Type 0 where
-  pub number : telling.number < 2 ^ 32
-  pub lawful : IsLawfulTold telling.told
+pub record IsLawfulUserReplyMessage (answered : UserReplyMessage) : Type 0 where
+  pub number : answered.number < 2 ^ 32
+  pub lawful : IsLawfulUserReply answered.reply
 
 -- the same of the fields of a kind
-abbrev pub IsToldOf : ℕ → Told → Type 0
-IsToldOf kind told = (told_kind told ≡ kind) × IsLawfulTold told
+abbrev pub IsUserReplyOf : ℕ → UserReply → Type 0
+IsUserReplyOf kind told = (user_reply_kind told ≡ kind) × IsLawfulUserReply told
 
-abbrev pub ReadsTold : ℕ → Bytes → Result UserReply ReadError → Type 0
-ReadsTold kind = ReadsWhole (IsToldOf kind) told_fields told_of
+abbrev pub ReadsUserReply : ℕ → Bytes → Result Coded ReadError → Type 0
+ReadsUserReply kind = ReadsWhole (IsUserReplyOf kind) user_reply_fields user_reply_of

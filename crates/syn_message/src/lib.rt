@@ -20,7 +20,8 @@
 //! - `Request::copy` and `Reply::copy` give an equal message.
 #![tactic(auto)]
 
-ghost use Rattle.syn_message.specs.Laws.{RequestsTell, RepliesTell, WishesTell, TellingsTell};
+ghost use Rattle.syn_message.specs.Laws.{RequestsTell, RepliesTell, UserRequestsTell};
+ghost use Rattle.syn_message.specs.Laws.{UserRepliesTell};
 
 mod copies;
 mod head;
@@ -52,8 +53,8 @@ pub use user_reply_reading::decode_user_reply;
 pub fn message_laws()
     ensures requests { RequestsTell }
     ensures replies { RepliesTell }
-    ensures wishes { WishesTell }
-    ensures tellings { TellingsTell }
+    ensures user_requests { UserRequestsTell }
+    ensures user_replies { UserRepliesTell }
 {
     syn_wire::spelling_laws();
 }

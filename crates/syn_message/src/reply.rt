@@ -1,7 +1,7 @@
 //! What a side replies to a coordinator.
 ghost use Rattle.std.specs.Prelude.{◌≡◌, ◌++◌, IfOk, OnOk};
-ghost use Rattle.syn_message.specs.Replies.{IsLawfulAnswering, IsLawfulReply, answering_of};
-ghost use Rattle.syn_message.specs.Replies.{answering_spelling, reply_fields, reply_kind, reply_of};
+ghost use Rattle.syn_message.specs.Replies.{IsLawfulReplyMessage, IsLawfulReply, reply_message_of};
+ghost use Rattle.syn_message.specs.Replies.{reply_spelling, reply_fields, reply_kind, reply_of};
 
 use crate::copies::copy_entries;
 use crate::head::write_head;
@@ -102,8 +102,8 @@ pub struct ReplyMessage {
 ///
 /// Refused 11 where memory is refused.
 pub fn encode_reply(alloc: Global, answered: &ReplyMessage) -> Result<Vec<u8>, WireError>
-    requires { IsLawfulAnswering (answering_of answered.now) }
-    ensures { IfOk result (λ body. body.items ≡ answering_spelling (answering_of answered.now)) }
+    requires { IsLawfulReplyMessage (reply_message_of answered.now) }
+    ensures { IfOk result (λ body. body.items ≡ reply_spelling (reply_message_of answered.now)) }
 {
     let mut body = Vec::new(alloc);
     write_head(

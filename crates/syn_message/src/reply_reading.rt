@@ -1,8 +1,8 @@
 //! Reads the body of a side's reply.
 ghost use Rattle.std.specs.Prelude.{IfOk, option_map};
 ghost use Rattle.syn_message.specs.Bodies.{IsWholeReading, ReadsWhole};
-ghost use Rattle.syn_message.specs.Replies.{IsFetchedBytes, IsLawfulAnswering, ReadsReply};
-ghost use Rattle.syn_message.specs.Replies.{answering_of, answering_spelling};
+ghost use Rattle.syn_message.specs.Replies.{IsFetchedBytes, IsLawfulReplyMessage, ReadsReply};
+ghost use Rattle.syn_message.specs.Replies.{reply_message_of, reply_spelling};
 ghost use Rattle.syn_message.specs.inner.Heads.{IsRefusal, refusal_spelling};
 ghost use Rattle.syn_refusal.specs.Refusals.{cause_of};
 ghost use Rattle.syn_wire.specs.Events.{file_spelling};
@@ -19,14 +19,14 @@ use syn_wire::{LONGEST_PIECE, ReadError, Reader, WireError, or_none, spelling_la
 ///
 /// Refused 11 where memory is refused.
 pub fn decode_reply(alloc: Global, body: &[u8]) -> Result<Option<ReplyMessage>, WireError>
-    ensures { IfOk result (λ read. IsWholeReading IsLawfulAnswering answering_spelling body.now
-        (option_map answering_of read)) }
+    ensures { IfOk result (λ read. IsWholeReading IsLawfulReplyMessage reply_spelling body.now
+        (option_map reply_message_of read)) }
 {
     or_none(read_reply(&mut Reader::new(body), alloc))
 }
 
 fn read_reply(reader: &mut Reader<'_>, alloc: Global) -> Result<ReplyMessage, ReadError>
-    ensures { ReadsWhole IsLawfulAnswering answering_spelling answering_of reader.old result }
+    ensures { ReadsWhole IsLawfulReplyMessage reply_spelling reply_message_of reader.old result }
 {
     let kind = reader.byte()?;
     let (session, number) = read_head(reader)?;

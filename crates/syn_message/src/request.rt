@@ -1,6 +1,6 @@
 //! What a coordinator asks of a side.
 ghost use Rattle.std.specs.Prelude.{◌≡◌, ◌++◌, IfOk, OnOk};
-ghost use Rattle.syn_message.specs.Requests.{asking_of, asking_spelling};
+ghost use Rattle.syn_message.specs.Requests.{request_message_of, request_spelling};
 ghost use Rattle.syn_message.specs.Requests.{fields_spelling, kind_of, request_of};
 
 use crate::head::write_head;
@@ -122,7 +122,7 @@ pub struct RequestMessage {
 ///
 /// Refused 11 where memory is refused.
 pub fn encode_request(alloc: Global, asked: &RequestMessage) -> Result<Vec<u8>, WireError>
-    ensures { IfOk result (λ body. body.items ≡ asking_spelling (asking_of asked.now)) }
+    ensures { IfOk result (λ body. body.items ≡ request_spelling (request_message_of asked.now)) }
 {
     let mut body = Vec::new(alloc);
     write_head(&mut body, asked.request.kind(), asked.session, asked.number)?;

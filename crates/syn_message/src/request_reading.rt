@@ -1,8 +1,9 @@
 //! Reads the body of a request.
 ghost use Rattle.std.specs.Prelude.{IfOk, option_map};
 ghost use Rattle.syn_message.specs.Bodies.{IsWholeReading, ReadsWhole};
-ghost use Rattle.syn_message.specs.Requests.{IsLawfulAsking, ReadsFields, asking_of};
-ghost use Rattle.syn_message.specs.Requests.{asking_spelling};
+ghost use Rattle.syn_message.specs.Requests.{IsLawfulRequestMessage, ReadsFields};
+ghost use Rattle.syn_message.specs.Requests.{request_message_of};
+ghost use Rattle.syn_message.specs.Requests.{request_spelling};
 ghost use Rattle.syn_message.specs.inner.Heads.{ReadsLast};
 ghost use Rattle.syn_headline.specs.Side.{IsPieceBytes};
 ghost use Rattle.syn_wire.specs.Events.{file_spelling};
@@ -18,14 +19,15 @@ use syn_wire::{LONGEST_PIECE, ReadError, Reader, WireError, or_none, spelling_la
 ///
 /// Refused 11 where memory is refused.
 pub fn decode_request(alloc: Global, body: &[u8]) -> Result<Option<RequestMessage>, WireError>
-    ensures { IfOk result (λ read. IsWholeReading IsLawfulAsking asking_spelling body.now
-        (option_map asking_of read)) }
+    ensures { IfOk result (λ read. IsWholeReading IsLawfulRequestMessage request_spelling body.now
+        (option_map request_message_of read)) }
 {
     or_none(read_request(&mut Reader::new(body), alloc))
 }
 
 fn read_request(reader: &mut Reader<'_>, alloc: Global) -> Result<RequestMessage, ReadError>
-    ensures { ReadsWhole IsLawfulAsking asking_spelling asking_of reader.old result }
+    ensures { ReadsWhole IsLawfulRequestMessage request_spelling request_message_of reader.old
+        result }
 {
     let kind = reader.byte()?;
     let (session, number) = read_head(reader)?;

@@ -1,7 +1,8 @@
 //! What a user asks of a served replica.
 ghost use Rattle.std.specs.Prelude.{◌≡◌, IfOk};
-ghost use Rattle.syn_message.specs.Users.{IsLawfulWished, wish_kind, wish_of, wished_of};
-ghost use Rattle.syn_message.specs.Users.{wished_spelling};
+ghost use Rattle.syn_message.specs.Users.{IsLawfulUserRequestMessage, user_request_kind};
+ghost use Rattle.syn_message.specs.Users.{user_request_of, user_request_message_of};
+ghost use Rattle.syn_message.specs.Users.{user_request_spelling};
 
 use crate::head::write_head;
 use crate::kind::{EDIT, GET};
@@ -22,7 +23,7 @@ pub enum UserRequest {
 impl UserRequest {
     /// The first byte of its body.
     pub fn kind(&self) -> u8
-        ensures { result ≡ wish_kind (wish_of self.now) }
+        ensures { result ≡ user_request_kind (user_request_of self.now) }
     {
         match self {
             UserRequest::Edit { .. } => EDIT,
@@ -42,8 +43,9 @@ pub struct UserRequestMessage {
 ///
 /// Refused 11 where memory is refused.
 pub fn encode_user_request(alloc: Global, asked: &UserRequestMessage) -> Result<Vec<u8>, WireError>
-    requires { IsLawfulWished (wished_of asked.now) }
-    ensures { IfOk result (λ body. body.items ≡ wished_spelling (wished_of asked.now)) }
+    requires { IsLawfulUserRequestMessage (user_request_message_of asked.now) }
+    ensures { IfOk result (λ body. body.items
+        ≡ user_request_spelling (user_request_message_of asked.now)) }
 {
     let mut body = Vec::new(alloc);
     write_head(&mut body, asked.request.kind(), 0, asked.number)?;

@@ -1,8 +1,9 @@
 //! Reads the body of a user's request.
 ghost use Rattle.std.specs.Prelude.{IfOk, option_map};
 ghost use Rattle.syn_message.specs.Bodies.{IsWholeReading, ReadsWhole};
-ghost use Rattle.syn_message.specs.Users.{IsLawfulWished, wished_of, wished_spelling};
-ghost use Rattle.syn_message.specs.inner.Heads.{ReadsWish};
+ghost use Rattle.syn_message.specs.Users.{IsLawfulUserRequestMessage, user_request_message_of};
+ghost use Rattle.syn_message.specs.Users.{user_request_spelling};
+ghost use Rattle.syn_message.specs.inner.Heads.{ReadsUserRequest};
 
 use crate::head::read_user_head;
 use crate::kind::{EDIT, GET};
@@ -18,8 +19,9 @@ pub fn decode_user_request(
     alloc: Global,
     body: &[u8],
 ) -> Result<Option<UserRequestMessage>, WireError>
-    ensures { IfOk result (λ read. IsWholeReading IsLawfulWished wished_spelling body.now
-        (option_map wished_of read)) }
+    ensures { IfOk result (λ read. IsWholeReading IsLawfulUserRequestMessage user_request_spelling
+        body.now
+        (option_map user_request_message_of read)) }
 {
     or_none(read_user_request(&mut Reader::new(body), alloc))
 }
@@ -28,17 +30,22 @@ fn read_user_request(
     reader: &mut Reader<'_>,
     alloc: Global,
 ) -> Result<UserRequestMessage, ReadError>
-    ensures { ReadsWhole IsLawfulWished wished_spelling wished_of reader.old result }
+    ensures { ReadsWhole IsLawfulUserRequestMessage user_request_spelling user_request_message_of
+        reader.old result }
 {
     let kind = reader.byte()?;
     let number = read_user_head(reader)?;
-    let request = read_wish(reader, alloc, kind)?;
+    let request = read_user_fields(reader, alloc, kind)?;
     Ok(UserRequestMessage { number, request })
 }
 
 /// What stands after the number, in a request of the kind.
-fn read_wish(reader: &mut Reader<'_>, alloc: Global, kind: u8) -> Result<UserRequest, ReadError>
-    ensures { ReadsWish kind reader.old result }
+fn read_user_fields(
+    reader: &mut Reader<'_>,
+    alloc: Global,
+    kind: u8,
+) -> Result<UserRequest, ReadError>
+    ensures { ReadsUserRequest kind reader.old result }
 {
     match kind {
         EDIT => read_edit(reader, alloc),
@@ -48,7 +55,7 @@ fn read_wish(reader: &mut Reader<'_>, alloc: Global, kind: u8) -> Result<UserReq
 }
 
 fn read_edit(reader: &mut Reader<'_>, alloc: Global) -> Result<UserRequest, ReadError>
-    ensures { ReadsWish EDIT reader.old result }
+    ensures { ReadsUserRequest EDIT reader.old result }
 {
     spelling_laws();
     let event = reader.event(alloc, Version::Two)?;
@@ -60,7 +67,7 @@ fn read_edit(reader: &mut Reader<'_>, alloc: Global) -> Result<UserRequest, Read
 }
 
 fn read_get(reader: &mut Reader<'_>, alloc: Global) -> Result<UserRequest, ReadError>
-    ensures { ReadsWish GET reader.old result }
+    ensures { ReadsUserRequest GET reader.old result }
 {
     spelling_laws();
     let path = reader.path(alloc)?;

@@ -1,7 +1,8 @@
 //! What is replied to a user of a served replica.
 ghost use Rattle.std.specs.Prelude.{◌≡◌, ◌++◌, IfOk, OnOk, option_map};
-ghost use Rattle.syn_message.specs.UserReplies.{IsFound, IsLawfulTelling, telling_of};
-ghost use Rattle.syn_message.specs.UserReplies.{found_spelling, telling_spelling};
+ghost use Rattle.syn_message.specs.UserReplies.{IsFound, IsLawfulUserReplyMessage};
+ghost use Rattle.syn_message.specs.UserReplies.{user_reply_message_of};
+ghost use Rattle.syn_message.specs.UserReplies.{found_spelling, user_reply_spelling};
 ghost use Rattle.syn_tree.specs.Contents.{content_of};
 
 use crate::head::write_head;
@@ -33,8 +34,9 @@ pub struct UserReplyMessage {
 ///
 /// Refused 11 where memory is refused.
 pub fn encode_user_reply(alloc: Global, answered: &UserReplyMessage) -> Result<Vec<u8>, WireError>
-    requires { IsLawfulTelling (telling_of answered.now) }
-    ensures { IfOk result (λ body. body.items ≡ telling_spelling (telling_of answered.now)) }
+    requires { IsLawfulUserReplyMessage (user_reply_message_of answered.now) }
+    ensures { IfOk result (λ body. body.items
+        ≡ user_reply_spelling (user_reply_message_of answered.now)) }
 {
     let mut body = Vec::new(alloc);
     match &answered.reply {

@@ -2,8 +2,10 @@
 ghost use Rattle.std.specs.Prelude.{IfOk, option_map};
 ghost use Rattle.syn_model.specs.Contents.{contents_spelling, contents_with};
 ghost use Rattle.syn_message.specs.Bodies.{IsWholeReading, ReadsWhole};
-ghost use Rattle.syn_message.specs.UserReplies.{IsFound, IsLawfulTelling, IsWithinFile, ReadsTold};
-ghost use Rattle.syn_message.specs.UserReplies.{found_spelling, telling_of, telling_spelling};
+ghost use Rattle.syn_message.specs.UserReplies.{IsFound, IsLawfulUserReplyMessage, IsWithinFile};
+ghost use Rattle.syn_message.specs.UserReplies.{ReadsUserReply};
+ghost use Rattle.syn_message.specs.UserReplies.{found_spelling, user_reply_message_of};
+ghost use Rattle.syn_message.specs.UserReplies.{user_reply_spelling};
 ghost use Rattle.syn_tree.specs.Contents.{content_of};
 ghost use Rattle.syn_tree.specs.Modes.{mode_of};
 
@@ -21,24 +23,30 @@ use syn_wire::{
 ///
 /// Refused 11 where memory is refused.
 pub fn decode_user_reply(alloc: Global, body: &[u8]) -> Result<Option<UserReplyMessage>, WireError>
-    ensures { IfOk result (λ read. IsWholeReading IsLawfulTelling telling_spelling body.now
-        (option_map telling_of read)) }
+    ensures { IfOk result (λ read. IsWholeReading IsLawfulUserReplyMessage user_reply_spelling
+        body.now
+        (option_map user_reply_message_of read)) }
 {
     or_none(read_user_reply(&mut Reader::new(body), alloc))
 }
 
 fn read_user_reply(reader: &mut Reader<'_>, alloc: Global) -> Result<UserReplyMessage, ReadError>
-    ensures { ReadsWhole IsLawfulTelling telling_spelling telling_of reader.old result }
+    ensures { ReadsWhole IsLawfulUserReplyMessage user_reply_spelling user_reply_message_of
+        reader.old result }
 {
     let kind = reader.byte()?;
     let number = read_user_head(reader)?;
-    let reply = read_told(reader, alloc, kind)?;
+    let reply = read_user_reply_fields(reader, alloc, kind)?;
     Ok(UserReplyMessage { number, reply })
 }
 
 /// What stands after the number, in a reply of the kind.
-fn read_told(reader: &mut Reader<'_>, alloc: Global, kind: u8) -> Result<UserReply, ReadError>
-    ensures { ReadsTold kind reader.old result }
+fn read_user_reply_fields(
+    reader: &mut Reader<'_>,
+    alloc: Global,
+    kind: u8,
+) -> Result<UserReply, ReadError>
+    ensures { ReadsUserReply kind reader.old result }
 {
     match kind {
         EDITED => read_edited(reader),
@@ -49,7 +57,7 @@ fn read_told(reader: &mut Reader<'_>, alloc: Global, kind: u8) -> Result<UserRep
 }
 
 fn read_edited(reader: &mut Reader<'_>) -> Result<UserReply, ReadError>
-    ensures { ReadsTold EDITED reader.old result }
+    ensures { ReadsUserReply EDITED reader.old result }
 {
     spelling_laws();
     let position = reader.u64()?;
@@ -58,14 +66,14 @@ fn read_edited(reader: &mut Reader<'_>) -> Result<UserReply, ReadError>
 }
 
 fn read_got(reader: &mut Reader<'_>, alloc: Global) -> Result<UserReply, ReadError>
-    ensures { ReadsTold GOT reader.old result }
+    ensures { ReadsUserReply GOT reader.old result }
 {
     let found = read_found(reader, alloc)?;
     Ok(UserReply::Got { found })
 }
 
 fn read_refused(reader: &mut Reader<'_>) -> Result<UserReply, ReadError>
-    ensures { ReadsTold REFUSED reader.old result }
+    ensures { ReadsUserReply REFUSED reader.old result }
 {
     let why = read_refusal(reader)?;
     Ok(UserReply::Refused(why))

@@ -9,7 +9,8 @@ use Rattle.syn_mark.specs.Marks.{IsDigestOrDirectory}
 use Rattle.syn_message.specs.Listings.{Entries, IsEntry, entry_spelling, mark_spelling}
 use Rattle.syn_message.specs.Replies.{IsLawfulReply, reply_fields}
 use Rattle.syn_message.specs.UserReplies as user
-use Rattle.syn_message.specs.UserReplies.{IsFound, IsLawfulTold, Told, found_spelling, told_fields}
+use Rattle.syn_message.specs.UserReplies.{IsFound, IsLawfulUserReply, UserReply, found_spelling}
+use Rattle.syn_message.specs.UserReplies.{user_reply_fields}
 use Rattle.syn_model.specs.Path.{Name}
 use Rattle.syn_model.specs.Tree.{Content, Directory, File}
 use Rattle.syn_serve.specs.Messages.{Answers, IsLawfulResponse, Response, Tells, response_spelling}
@@ -64,20 +65,21 @@ short_found (Some (File contents)) is =
     omega (arith, few, size)
 short_found (Some Directory) is = omega arith
 
-short_told : (told : Told) → IsLawfulTold told → length (told_fields told) ≤ 65000
+short_told : (told : UserReply) → IsLawfulUserReply told → length (user_reply_fields told) ≤ 65000
 short_told (user.Edited position) is = omega arith
 short_told (user.Got found) is = short_found found is
 short_told (user.Refused why) is = omega arith
 
 pub is_body : (response : Response) → IsLawfulResponse response
     → IsBody (response_spelling response)
-is_body (Answers answering) is =
-    let short = short_reply answering.reply is.reply in
-    let size : length (response_spelling (Answers answering))
-    ≡ 13 + length (reply_fields answering.reply) = omega arith in
+is_body (Answers answered) is =
+    let short = short_reply answered.reply is.reply in
+    let size : length (response_spelling (Answers answered))
+    ≡ 13 + length (reply_fields answered.reply) = omega arith in
     (omega (arith, size), omega (arith, short, size))
-is_body (Tells telling) is =
-    let short = short_told telling.told is.lawful in
-    let size : length (response_spelling (Tells telling)) ≡ 13 + length (told_fields telling.told) =
+is_body (Tells answered) is =
+    let short = short_told answered.reply is.lawful in
+    let size : length (response_spelling (Tells answered))
+    ≡ 13 + length (user_reply_fields answered.reply) =
     omega arith in
     (omega (arith, size), omega (arith, short, size))

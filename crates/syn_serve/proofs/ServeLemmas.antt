@@ -10,7 +10,7 @@ use Rattle.syn_lock.specs.declared.own.Pass.{Pass}
 use Rattle.syn_replica.specs.declared.replica.Replica.{Replica}
 use Rattle.syn_serve.specs.Exchanges.{IsAnswered, moment}
 use Rattle.syn_serve.specs.Holds.{Responds}
-use Rattle.syn_serve.specs.Lines.{BreaksOff, ClosesFor, IsSilent, Line}
+use Rattle.syn_serve.specs.States.{BreaksOff, ClosesFor, IsSilent, ConnectionState}
 use Rattle.syn_serve.specs.Messages.{Message, Response, message_spelling}
 use Rattle.syn_serve.specs.inner.Parts.{ReceivesMessage, of_link}
 use Rattle.syn_shared.specs.declared.shared.SharedReplica.{SharedReplica}
@@ -28,7 +28,7 @@ breaks_off link.Device old new body is bad large memory some = some
 breaks_off link.Memory old new body is bad large memory some = absurd (memory refl)
 
 -- a frame's fault closes a connection
-pub closes_for : (error : LinkError) (old new : Line)
+pub closes_for : (error : LinkError) (old new : ConnectionState)
     → ComesAtFault old.given new.given old.held new.held error → ClosesFor (of_link error) old new
 closes_for link.BadFrame old new fault = fault
 closes_for link.TooLarge old new fault = fault
@@ -37,7 +37,8 @@ closes_for link.Memory old new fault = inl fault
 
 module _ {D : Type 0} {disk : Ghosts D} (shared : SharedReplica D disk) where
   -- what came was answered by a hold, and then at most the reply was written
-  pub answered_so : (old came new : Line) (after : Agent) (first last : Pass (Replica D disk))
+  pub answered_so : (old came new : ConnectionState) (after : Agent)
+      (first last : Pass (Replica D disk))
       (message : Message) (response : Response) → ReceivesMessage old came message
       → IsSilent old came → Responds shared first last came.agent after message response
       → new.given ≡ came.given → new.held ≡ came.held → new.agent ≡ after

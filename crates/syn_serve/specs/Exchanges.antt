@@ -4,7 +4,8 @@ use Rattle.syn_disk.specs.declared.disk.Disk.{Ghosts}
 use Rattle.syn_lock.specs.declared.own.Pass.{Pass}
 use Rattle.syn_replica.specs.declared.replica.Replica.{Replica}
 use Rattle.syn_serve.specs.Holds.{Responds}
-use Rattle.syn_serve.specs.Lines.{BreaksOff, ClosesFor, Ends, IsSilent, Line, Receives, Sends}
+use Rattle.syn_serve.specs.States.{BreaksOff, ClosesFor, Ends, IsSilent, ConnectionState, Receives}
+use Rattle.syn_serve.specs.States.{Sends}
 use Rattle.syn_serve.specs.Messages.{IsLawfulMessage, Message, Response, message_spelling}
 use Rattle.syn_serve.specs.Messages.{response_spelling}
 use Rattle.syn_serve.specs.declared.connection.Exchanged.{Exchanged}
@@ -14,32 +15,32 @@ use Rattle.syn_shared.specs.declared.shared.SharedReplica.{SharedReplica}
 
 -- a connection with the pass that it has
 pub record Moment (D : Type 0) (disk : Ghosts D) : Type 0 where
-  pub line : Line
+  pub state : ConnectionState
   pub pass : Pass (Replica D disk)
 
-abbrev pub moment : {D : Type 0} → {disk : Ghosts D} → Line → Pass (Replica D disk)
+abbrev pub moment : {D : Type 0} → {disk : Ghosts D} → ConnectionState → Pass (Replica D disk)
     → Moment D disk
-moment line pass = record { line = line; pass = pass }
+moment state pass = record { state = state; pass = pass }
 
 module _ {D : Type 0} {disk : Ghosts D} (shared : SharedReplica D disk) where
   -- a message came, and one hold answered it
   pub record IsAnswered (old new : Moment D disk) (message : Message) (response : Response)
       : Type 0 where
     pub lawful : IsLawfulMessage message
-    pub came : Receives old.line new.line (message_spelling message)
-    pub held : Responds shared old.pass new.pass old.line.agent new.line.agent message response
+    pub came : Receives old.state new.state (message_spelling message)
+    pub held : Responds shared old.pass new.pass old.state.agent new.state.agent message response
 
   -- The reply to a message was written; or the other side closed. Or the connection is to be
   -- closed, and nothing was answered; or the reply was not written whole
   pub data Exchanges (old new : Moment D disk) : Result Exchanged ServeError → Type 0 where
     answers : (message : Message) (response : Response) → IsAnswered old new message response →
-        Sends old.line.written new.line.written (response_spelling response) →
+        Sends old.state.written new.state.written (response_spelling response) →
         Exchanges old new (Ok Answered)
-    ends : Ends old.line new.line → IsSilent old.line new.line → new.pass ≡ old.pass →
+    ends : Ends old.state new.state → IsSilent old.state new.state → new.pass ≡ old.pass →
         Exchanges old new (Ok Ended)
-    closes : (error : ServeError) → ClosesFor error old.line new.line →
-        IsSilent old.line new.line → new.pass ≡ old.pass → Exchanges old new (Err error)
+    closes : (error : ServeError) → ClosesFor error old.state new.state →
+        IsSilent old.state new.state → new.pass ≡ old.pass → Exchanges old new (Err error)
     breaks : (message : Message) (response : Response) (error : ServeError) →
         IsAnswered old new message response →
-        BreaksOff error old.line.written new.line.written (response_spelling response) →
+        BreaksOff error old.state.written new.state.written (response_spelling response) →
         Exchanges old new (Err error)

@@ -9,8 +9,8 @@ use Rattle.syn_disk.specs.declared.disk.Disk.{Ghosts}
 use Rattle.syn_headline.specs.Side.{Request, Reply, Refused as Refuses, TakesMemory, answer}
 use Rattle.syn_headline.specs.SideMachine.{ServesHalted, SideMachine}
 use Rattle.syn_lock.specs.declared.own.Pass.{Pass}
-use Rattle.syn_message.specs.UserReplies.{Told, Edited as IsEdited, Got, Refused}
-use Rattle.syn_message.specs.Users.{Wish, Edits as WishesEdit, Gets as WishesGet}
+use Rattle.syn_message.specs.UserReplies.{UserReply, Edited as IsEdited, Got, Refused}
+use Rattle.syn_message.specs.Users.{UserRequest, Edits as WishesEdit, Gets as WishesGet}
 use Rattle.syn_model.specs.Event.{Edited}
 use Rattle.syn_model.specs.History.{History}
 use Rattle.syn_model.specs.Refusal.{Memory}
@@ -51,11 +51,11 @@ pub record AnswersAlone {D : Type 0} {disk : Ghosts D} (agent after : Agent) (se
       (disk.failures (disk_of left))
 
 -- what a user is told of an edit, and of what stands at a path
-abbrev pub told_edit : Result ℕ ReplicaError → Told
+abbrev pub told_edit : Result ℕ ReplicaError → UserReply
 told_edit (Ok position) = IsEdited position
 told_edit (Err e) = Refused (refusal_of e)
 
-abbrev pub told_get : Result Content ReplicaError → Told
+abbrev pub told_get : Result Content ReplicaError → UserReply
 told_get (Ok content) = Got (Some (content_of content))
 told_get (Err (Tree Absent)) = Got None
 told_get (Err e) = Refused (refusal_of e)
@@ -63,7 +63,7 @@ told_get (Err e) = Refused (refusal_of e)
 module _ {D : Type 0} {disk : Ghosts D} (shared : SharedReplica D disk)
     (old new : Pass (Replica D disk)) where
   -- a user is told what the edit or the reading of one thread answers within one hold
-  abbrev pub Grants : Wish → Told → Type 0
+  abbrev pub Grants : UserRequest → UserReply → Type 0
   Grants (WishesEdit user edit) told =
       (answer : Result ℕ ReplicaError) × (told ≡ told_edit answer)
       × HeldAfterWait shared old new (Edits (Edited user edit) answer)
@@ -74,11 +74,11 @@ module _ {D : Type 0} {disk : Ghosts D} (shared : SharedReplica D disk)
   -- One hold answers the message; the reply has its session and its number. A user's leaves the
   -- agent as it was
   abbrev pub Responds : Agent → Agent → Message → Response → Type 0
-  Responds agent after (Asks asking) (Answers answering) =
-      (answering.session ≡ asking.session) × (answering.number ≡ asking.number)
+  Responds agent after (Asks asked) (Answers answered) =
+      (answered.session ≡ asked.session) × (answered.number ≡ asked.number)
       × HeldAfterWait shared old new
-      (AnswersAlone agent after asking.session asking.request answering.reply)
-  Responds agent after (Wishes wished) (Tells telling) =
-      (telling.number ≡ wished.number) × (after ≡ agent) × Grants wished.wish telling.told
-  Responds agent after (Asks asking) (Tells telling) = ⊥
-  Responds agent after (Wishes wished) (Answers answering) = ⊥
+      (AnswersAlone agent after asked.session asked.request answered.reply)
+  Responds agent after (Wishes asked) (Tells answered) =
+      (answered.number ≡ asked.number) × (after ≡ agent) × Grants asked.request answered.reply
+  Responds agent after (Asks asked) (Tells answered) = ⊥
+  Responds agent after (Wishes asked) (Answers answered) = ⊥

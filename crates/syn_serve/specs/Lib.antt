@@ -1,7 +1,7 @@
 pub mod Refusals
 pub mod Messages
 pub mod Holds
-pub mod Lines
+pub mod States
 pub mod Exchanges
 pub mod Runs
 pub mod Servings

@@ -4,7 +4,7 @@ use Rattle.syn_disk.specs.declared.disk.Disk.{Ghosts}
 use Rattle.syn_lock.specs.declared.own.Pass.{Pass}
 use Rattle.syn_replica.specs.declared.replica.Replica.{Replica}
 use Rattle.syn_serve.specs.Exchanges.{moment}
-use Rattle.syn_serve.specs.Lines.{Line}
+use Rattle.syn_serve.specs.States.{ConnectionState}
 use Rattle.syn_serve.specs.Runs.{Serves}
 use Rattle.syn_serve.specs.declared.connection.ServerConnection.{ServerConnection}
 use Rattle.syn_serve.specs.declared.error.ServeError.{ServeError}
@@ -23,7 +23,7 @@ module _ {R W G : Type 0} where
   ended_in serving = serving.ended
 
 -- it was served to its end, with a pass of a replica on disks of this kind
-pub record WasServed (D : Type 0) (disk : Ghosts D) (old new : Line)
+pub record WasServed (D : Type 0) (disk : Ghosts D) (old new : ConnectionState)
     (ended : Option (Result Unit ServeError)) : Type 0 where
   pub shared : SharedReplica D disk
   pub first : Pass (Replica D disk)

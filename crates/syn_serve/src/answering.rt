@@ -1,8 +1,8 @@
 //! One hold answers a request.
 ghost use Rattle.syn_message.specs.Replies.{IsLawfulReply, reply_of};
 ghost use Rattle.syn_message.specs.Requests.{request_of};
-ghost use Rattle.syn_message.specs.UserReplies.{IsLawfulTold, told_of};
-ghost use Rattle.syn_message.specs.Users.{Wish, wish_of};
+ghost use Rattle.syn_message.specs.UserReplies.{IsLawfulUserReply, user_reply_of};
+ghost use Rattle.syn_message.specs.Users.{UserRequest, user_request_of};
 ghost use Rattle.syn_serve.specs.Holds.{AnswersAlone, Grants, Responds};
 ghost use Rattle.syn_serve.specs.Messages.{IsLawfulMessage, IsLawfulResponse, message_of};
 ghost use Rattle.syn_serve.specs.Messages.{response_of};
@@ -99,8 +99,9 @@ fn answer_user<H: Wait, D: Disk>(
 ) -> UserReply
     requires { IsFor shared.now pass.old }
     ensures of { IsFor shared.now pass.new }
-    ensures held { Grants shared.now pass.old pass.new (wish_of request) (told_of result) }
-    ensures lawful { IsLawfulTold (told_of result) }
+    ensures held { Grants shared.now pass.old pass.new (user_request_of request)
+        (user_reply_of result) }
+    ensures lawful { IsLawfulUserReply (user_reply_of result) }
     ensures later { IsLater shared.now pass.old pass.new }
 {
     match request {
@@ -120,9 +121,9 @@ fn answer_edit<H: Wait, D: Disk>(
 ) -> UserReply
     requires { IsFor shared.now pass.old }
     ensures of { IsFor shared.now pass.new }
-    ensures held { Grants shared.now pass.old pass.new (Wish.Edits user (edit_of edit))
-        (told_of result) }
-    ensures lawful { IsLawfulTold (told_of result) }
+    ensures held { Grants shared.now pass.old pass.new (UserRequest.Edits user (edit_of edit))
+        (user_reply_of result) }
+    ensures lawful { IsLawfulUserReply (user_reply_of result) }
     ensures later { IsLater shared.now pass.old pass.new }
 {
     match shared.edit(rt, alloc, pass, user, edit) {
@@ -141,8 +142,9 @@ fn answer_get<H: Wait, D: Disk>(
 ) -> UserReply
     requires { IsFor shared.now pass.old }
     ensures of { IsFor shared.now pass.new }
-    ensures held { Grants shared.now pass.old pass.new (Wish.Gets path.now) (told_of result) }
-    ensures lawful { IsLawfulTold (told_of result) }
+    ensures held { Grants shared.now pass.old pass.new (UserRequest.Gets path.now)
+        (user_reply_of result) }
+    ensures lawful { IsLawfulUserReply (user_reply_of result) }
     ensures later { IsLater shared.now pass.old pass.new }
 {
     match shared.get(rt, alloc, pass, path) {

@@ -2,8 +2,8 @@
 ghost use Rattle.std.specs.Prelude.{◌≡◌, [], IfErr, IfNone, IfOk, IfSome, None, OnOk};
 ghost use Rattle.syn_agent.specs.Agents.{staging_of};
 ghost use Rattle.syn_serve.specs.Exchanges.{Exchanges, moment};
-ghost use Rattle.syn_serve.specs.Lines.{BreaksOff, ClosesFor, Ends, IsSilent, Sends, agent_of};
-ghost use Rattle.syn_serve.specs.Lines.{held_by, line_of, reader_of, writer_of};
+ghost use Rattle.syn_serve.specs.States.{BreaksOff, ClosesFor, Ends, IsSilent, Sends, agent_of};
+ghost use Rattle.syn_serve.specs.States.{held_by, state_of, reader_of, writer_of};
 ghost use Rattle.syn_serve.specs.Messages.{IsLawfulResponse, message_of, response_of};
 ghost use Rattle.syn_serve.specs.Messages.{response_spelling};
 ghost use Rattle.syn_serve.specs.Runs.{Serves};
@@ -78,8 +78,8 @@ impl<R: Read, W: Write> ServerConnection<R, W> {
         requires { IsFor shared.now pass.old }
         ensures of { IsFor shared.now pass.new }
         ensures exchanges { Exchanges shared.now
-            (moment (line_of R.remaining W.contents self.old) pass.old)
-            (moment (line_of R.remaining W.contents self.new) pass.new) result }
+            (moment (state_of R.remaining W.contents self.old) pass.old)
+            (moment (state_of R.remaining W.contents self.new) pass.new) result }
         ensures later { IsLater shared.now pass.old pass.new }
     {
         let Some(request) = self.receive(alloc)? else {
@@ -108,8 +108,8 @@ impl<R: Read, W: Write> ServerConnection<R, W> {
         requires { IsFor shared.now pass.old }
         ensures of { IsFor shared.now pass.new }
         ensures serves { Serves shared.now
-            (moment (line_of R.remaining W.contents self.old) pass.old)
-            (moment (line_of R.remaining W.contents self.new) pass.new) result }
+            (moment (state_of R.remaining W.contents self.old) pass.old)
+            (moment (state_of R.remaining W.contents self.new) pass.new) result }
         ensures later { IsLater shared.now pass.old pass.new }
     {
         for _ in rt.forever() {
@@ -123,16 +123,16 @@ impl<R: Read, W: Write> ServerConnection<R, W> {
     /// The next request; none where the other side closed the connection.
     fn receive(&mut self, alloc: Global) -> Result<Option<AnyRequest>, ServeError>
         ensures request { IfOk result (λ found. IfSome found (λ request.
-            ReceivesMessage (line_of R.remaining W.contents self.old)
-            (line_of R.remaining W.contents self.new) (message_of request))) }
+            ReceivesMessage (state_of R.remaining W.contents self.old)
+            (state_of R.remaining W.contents self.new) (message_of request))) }
         ensures end { IfOk result (λ found. IfNone found
-            (Ends (line_of R.remaining W.contents self.old)
-            (line_of R.remaining W.contents self.new))) }
+            (Ends (state_of R.remaining W.contents self.old)
+            (state_of R.remaining W.contents self.new))) }
         ensures closes { IfErr result (λ error. ClosesFor error
-            (line_of R.remaining W.contents self.old)
-            (line_of R.remaining W.contents self.new)) }
-        ensures silent { IsSilent (line_of R.remaining W.contents self.old)
-            (line_of R.remaining W.contents self.new) }
+            (state_of R.remaining W.contents self.old)
+            (state_of R.remaining W.contents self.new)) }
+        ensures silent { IsSilent (state_of R.remaining W.contents self.old)
+            (state_of R.remaining W.contents self.new) }
     {
         let Some(body) = self.connection.receive(alloc)? else {
             return Ok(None);
@@ -150,8 +150,8 @@ impl<R: Read, W: Write> ServerConnection<R, W> {
             (W.contents (writer_of self.new)) (response_spelling (response_of reply.now))) }
         ensures broken { IfErr result (λ error. BreaksOff error (W.contents (writer_of self.old))
             (W.contents (writer_of self.new)) (response_spelling (response_of reply.now))) }
-        ensures rest { IsOnlyWritten (line_of R.remaining W.contents self.old)
-            (line_of R.remaining W.contents self.new) }
+        ensures rest { IsOnlyWritten (state_of R.remaining W.contents self.old)
+            (state_of R.remaining W.contents self.new) }
     {
         let body = encode_any_reply(alloc, reply)?;
         Ok(self.connection.send(&body)?)

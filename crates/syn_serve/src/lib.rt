@@ -7,8 +7,9 @@
 //!
 //! - `decode_any_request` gives the message that a body spells, and none exactly where it spells
 //!   none of either. `encode_any_reply` gives the body of a reply.
-//! - A connection is a `Line` to its contracts: what the reader is to give, what came and was not
-//!   handed out, what is staged, and what was written. A `Moment` is a line with the pass.
+//! - A connection is a `ConnectionState` to its contracts: what the reader is to give, what came
+//!   and was not handed out, what is staged, and what was written. A `Moment` is such a state with
+//!   the pass.
 //! - `serve_next` is one exchange, which is one of four things (`exchanges`: `Exchanges`).
 //!   - A message came and its reply was written (`answers`). Its body was in the first frame of
 //!     what came, and its one hold answered it (`IsAnswered`); the reply's frame is all that was

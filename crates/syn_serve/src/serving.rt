@@ -53,13 +53,13 @@ impl<R, W, G> Serving<R, W, G> {
 }
 
 impl<D: Disk, R: Read, W: Write, G: Gate> Work<D> for Serving<R, W, G> {
-    ghost use Rattle.syn_serve.specs.Lines.{line_of};
+    ghost use Rattle.syn_serve.specs.States.{state_of};
     ghost use Rattle.syn_serve.specs.Servings.{WasServed, connection_in, ended_in};
 
     // Until its end, with the pass.
     ghost does = { λ old new. WasServed D D.Disk
-        (line_of R.remaining W.contents (connection_in old))
-        (line_of R.remaining W.contents (connection_in new)) (ended_in new) };
+        (state_of R.remaining W.contents (connection_in old))
+        (state_of R.remaining W.contents (connection_in new)) (ended_in new) };
 
     fn work<H: Wait>(&mut self, rt: &H, shared: &SharedReplica<D>, pass: &mut Pass<Replica<D>>) {
         let ended = self

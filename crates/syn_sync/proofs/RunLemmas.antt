@@ -7,14 +7,14 @@ use Rattle.syn_disk.specs.Arms.{is_stopped}
 use Rattle.syn_disk.specs.declared.disk.Disk.{Ghosts}
 use Rattle.syn_headline.specs.Coordinator.{Call, CoordinatorMachine}
 use Rattle.syn_headline.specs.Network.{Message, Which}
-use Rattle.syn_message.specs.Replies.{Answering}
+use Rattle.syn_message.specs.Replies.{ReplyMessage}
 use Rattle.syn_model.specs.Archive.{Kept}
 use Rattle.syn_coordinator.specs.Coordinators.{Does, Stands, device_of, goes_down, goes_on}
 use Rattle.syn_coordinator.specs.declared.coordinator.Coordinator.{Coordinator}
 use Rattle.syn_sync.proofs.WriteLemmas.{calm_writes, sends_twice, stopped_none, writes_calm}
 use Rattle.syn_sync.proofs.WriteLemmas.{writes_nothing, writes_twice}
-use Rattle.syn_sync.specs.Drivers.{Lines, Outlets}
-use Rattle.syn_sync.specs.Lines.{HearsAll, Line}
+use Rattle.syn_sync.specs.Drivers.{ConnectionStates, Outlets}
+use Rattle.syn_sync.specs.States.{HearsAll, ConnectionState}
 use Rattle.syn_link.specs.Frames.{Bytes}
 use Rattle.syn_sync.specs.Outlets.{Outlet, Writes}
 use Rattle.syn_sync.specs.Runs.{Act, Acts, Begins, Compacts, Done, Down, Drives, Leads, Starts}
@@ -28,7 +28,7 @@ leads_twice pair a b c [] second one two = subst (λ m. Leads pair m second c) o
 leads_twice pair a b c (done ∷ onward) second (between, step, one) two =
     (between, step, leads_twice pair between b c onward second one two)
 
-pub hears_twice : (a b c : Line) (first second : List Answering) → HearsAll a first b
+pub hears_twice : (a b c : ConnectionState) (first second : List ReplyMessage) → HearsAll a first b
     → HearsAll b second c → HearsAll a (first ++ second) c
 hears_twice a b c [] second one two = subst (λ l. HearsAll l second c) one two
 hears_twice a b c (answering ∷ onward) second (between, hears, one) two =
@@ -157,10 +157,10 @@ module _ {D : Type 0} {disk : Ghosts D} where
 
   -- no act, though a link may close
   pub drives_none : (new : Coordinator D disk) (pair : ℕ) (machine : CoordinatorMachine)
-      (lines : Lines) (from to : Outlets) → Stands new pair machine → stops new ≡ false
+      (states : ConnectionStates) (from to : Outlets) → Stands new pair machine → stops new ≡ false
       → ((side : Which) → Writes (from side) (to side) [] (to side).goes)
-      → Drives new pair machine lines lines from to
-  drives_none new pair machine lines from to stands calm writes = record {
+      → Drives new pair machine states states from to
+  drives_none new pair machine states from to stands calm writes = record {
     acts = [];
     reached = machine;
     leads = refl;
@@ -171,17 +171,17 @@ module _ {D : Type 0} {disk : Ghosts D} where
 
   -- calls that hear nothing, and what they sent is written
   pub drives_calls : (new : Coordinator D disk) (pair : ℕ) (machine : CoordinatorMachine)
-      (messages : List Message) (lines heard : Lines) (from to : Outlets)
+      (messages : List Message) (states heard : ConnectionStates) (from to : Outlets)
       → Calls new pair machine messages → stops new ≡ false
-      → ((side : Which) → heard side ≡ lines side)
+      → ((side : Which) → heard side ≡ states side)
       → ((side : Which) → Writes (from side) (to side) (frames_to side messages) (to side).goes)
-      → Drives new pair machine lines heard from to
-  drives_calls new pair machine messages lines heard from to calls calm same writes = record {
+      → Drives new pair machine states heard from to
+  drives_calls new pair machine messages states heard from to calls calm same writes = record {
     acts = calls.acts;
     reached = calls.reached;
     leads = calls.leads;
     ends = calls.ends;
-    hears = λ side. subst (λ all. HearsAll (lines side) all (heard side))
+    hears = λ side. subst (λ all. HearsAll (states side) all (heard side))
         (sym (calls.silent side)) (same side);
     writes = λ side. subst (λ bytes. Writes (from side) (to side) bytes
         ((to side).goes && not (stops new))) (sym (calls.sends calm side))
@@ -190,51 +190,51 @@ module _ {D : Type 0} {disk : Ghosts D} where
 
   -- or the machine was stopped in them
   pub drives_down : (new : Coordinator D disk) (pair : ℕ) (machine : CoordinatorMachine)
-      (messages : List Message) (lines : Lines) (from : Outlets)
+      (messages : List Message) (states : ConnectionStates) (from : Outlets)
       → Calls new pair machine messages → stops new ≡ true
-      → Drives new pair machine lines lines from from
-  drives_down new pair machine messages lines from calls stopped = record {
+      → Drives new pair machine states states from from
+  drives_down new pair machine messages states from calls stopped = record {
     acts = calls.acts;
     reached = calls.reached;
     leads = calls.leads;
     ends = calls.ends;
-    hears = λ side. subst (λ all. HearsAll (lines side) all (lines side))
+    hears = λ side. subst (λ all. HearsAll (states side) all (states side))
         (sym (calls.silent side)) refl;
     writes = λ side. stopped_is new (from side) (frames_in side calls.acts) stopped;
   }
 
   silent_at : (stopped : Bool) (new : Coordinator D disk) (pair : ℕ)
-      (machine : CoordinatorMachine) (lines : Lines) (from : Outlets)
+      (machine : CoordinatorMachine) (states : ConnectionStates) (from : Outlets)
       → Calls new pair machine [] → stops new ≡ stopped
-      → Drives new pair machine lines lines from from
-  silent_at true new pair machine lines from calls is =
-      drives_down new pair machine [] lines from calls is
-  silent_at false new pair machine lines from calls is =
-      drives_calls new pair machine [] lines lines from from calls is (λ side. refl)
+      → Drives new pair machine states states from from
+  silent_at true new pair machine states from calls is =
+      drives_down new pair machine [] states from calls is
+  silent_at false new pair machine states from calls is =
+      drives_calls new pair machine [] states states from from calls is (λ side. refl)
       (λ side. writes_nothing (from side) (from side).goes)
 
   -- they send nothing
   pub drives_silent : (new : Coordinator D disk) (pair : ℕ) (machine : CoordinatorMachine)
-      (lines : Lines) (from : Outlets) → Calls new pair machine []
-      → Drives new pair machine lines lines from from
-  drives_silent new pair machine lines from calls =
-      silent_at (stops new) new pair machine lines from calls refl
+      (states : ConnectionStates) (from : Outlets) → Calls new pair machine []
+      → Drives new pair machine states states from from
+  drives_silent new pair machine states from calls =
+      silent_at (stops new) new pair machine states from calls refl
 
   -- one after the other
   pub drives_twice : (middle new : Coordinator D disk) (pair : ℕ) (machine : CoordinatorMachine)
-      (lines heard later : Lines) (from via to : Outlets)
-      (first : Drives middle pair machine lines heard from via) → stops middle ≡ false
+      (states heard later : ConnectionStates) (from via to : Outlets)
+      (first : Drives middle pair machine states heard from via) → stops middle ≡ false
       → Drives new pair first.reached heard later via to
-      → Drives new pair machine lines later from to
-  drives_twice middle new pair machine lines heard later from via to first calm second = record {
+      → Drives new pair machine states later from to
+  drives_twice middle new pair machine states heard later from via to first calm second = record {
     acts = first.acts ++ second.acts;
     reached = second.reached;
     leads = leads_twice pair machine first.reached second.reached first.acts second.acts
         first.leads second.leads;
     ends = second.ends;
-    hears = λ side. subst (λ all. HearsAll (lines side) all (later side))
+    hears = λ side. subst (λ all. HearsAll (states side) all (later side))
         (sym (answers_twice side first.acts second.acts))
-        (hears_twice (lines side) (heard side) (later side) (answers_in side first.acts)
+        (hears_twice (states side) (heard side) (later side) (answers_in side first.acts)
         (answers_in side second.acts) (first.hears side) (second.hears side));
     writes = λ side. subst (λ bytes. Writes (from side) (to side) bytes
         ((to side).goes && not (stops new))) (sym (frames_twice side first.acts second.acts))
@@ -246,25 +246,25 @@ module _ {D : Type 0} {disk : Ghosts D} where
 
   -- a reply is taken that was heard, and what that sends is written, where no machine was stopped
   pub drives_take : (old new : Coordinator D disk) (pair : ℕ) (machine : CoordinatorMachine)
-      (from : Which) (answering : Answering) (kept : List Kept) (messages : List Message)
-      (lines heard later : Lines) (begin via to : Outlets)
+      (from : Which) (answering : ReplyMessage) (kept : List Kept) (messages : List Message)
+      (states heard later : ConnectionStates) (begin via to : Outlets)
       → Does old new pair (step_of pair machine (Takes from answering)) kept messages
-      → ((side : Which) → HearsAll (lines side) (answer_in side (Takes from answering))
+      → ((side : Which) → HearsAll (states side) (answer_in side (Takes from answering))
       (heard side))
       → ((side : Which) → Writes (begin side) (via side) [] (via side).goes)
       → stops new ≡ false → ((side : Which) → later side ≡ heard side)
       → ((side : Which) → Writes (via side) (to side) (frames_to side messages) (to side).goes)
-      → Drives new pair machine lines later begin to
-  drives_take old new pair machine from answering kept messages lines heard later begin via to
+      → Drives new pair machine states later begin to
+  drives_take old new pair machine from answering kept messages states heard later begin via to
       (goes_on reached call step stands is_kept is_sent is_reported) hears reads calm same writes =
       record {
         acts = record { act = Takes from answering; call = call } ∷ [];
         reached = reached;
         leads = (reached, step, refl);
         ends = inl stands;
-        hears = λ side. subst (λ l. HearsAll (lines side)
+        hears = λ side. subst (λ l. HearsAll (states side)
             (answer_in side (Takes from answering) ++ []) l) (sym (same side))
-            (subst (λ all. HearsAll (lines side) all (heard side))
+            (subst (λ all. HearsAll (states side) all (heard side))
             (sym (append-nil (answer_in side (Takes from answering)))) (hears side));
         writes = λ side. calm_is new (begin side) (to side) (frames_to side call.messages ++ [])
             calm (subst (λ bytes. Writes (begin side) (to side) bytes (to side).goes)
@@ -273,26 +273,26 @@ module _ {D : Type 0} {disk : Ghosts D} where
             (sends_twice (begin side) (via side) (to side) [] (frames_to side messages)
             (reads side) (writes side)));
       }
-  drives_take old new pair machine from answering kept messages lines heard later begin via to
+  drives_take old new pair machine from answering kept messages states heard later begin via to
       (goes_down reached call step stopped down leaves is_kept tries) hears reads calm same
       writes = absurd (false_is (stops new) stopped calm)
 
   taken_down : (old new : Coordinator D disk) (pair : ℕ) (machine : CoordinatorMachine)
-      (from : Which) (answering : Answering) (call : Call) (reached : CoordinatorMachine)
-      (lines heard : Lines) (begin via : Outlets)
+      (from : Which) (answering : ReplyMessage) (call : Call) (reached : CoordinatorMachine)
+      (states heard : ConnectionStates) (begin via : Outlets)
       → step_of pair machine (Takes from answering) reached call
       → Stands new pair reached ⊎ Down new pair reached
-      → ((side : Which) → HearsAll (lines side) (answer_in side (Takes from answering))
+      → ((side : Which) → HearsAll (states side) (answer_in side (Takes from answering))
       (heard side))
       → ((side : Which) → Writes (begin side) (via side) [] (via side).goes)
-      → stops new ≡ true → Drives new pair machine lines heard begin via
-  taken_down old new pair machine from answering call reached lines heard begin via step ends
+      → stops new ≡ true → Drives new pair machine states heard begin via
+  taken_down old new pair machine from answering call reached states heard begin via step ends
       hears reads stopped = record {
         acts = record { act = Takes from answering; call = call } ∷ [];
         reached = reached;
         leads = (reached, step, refl);
         ends = ends;
-        hears = λ side. subst (λ all. HearsAll (lines side) all (heard side))
+        hears = λ side. subst (λ all. HearsAll (states side) all (heard side))
             (sym (append-nil (answer_in side (Takes from answering)))) (hears side);
         writes = λ side. writes_twice (begin side) (via side) (via side) []
             (frames_to side call.messages ++ []) (not (stops new)) (reads side)
@@ -301,20 +301,20 @@ module _ {D : Type 0} {disk : Ghosts D} where
 
   -- or it was, and nothing is
   pub drives_taken : (old new : Coordinator D disk) (pair : ℕ) (machine : CoordinatorMachine)
-      (from : Which) (answering : Answering) (kept : List Kept) (messages : List Message)
-      (lines heard : Lines) (begin via : Outlets)
+      (from : Which) (answering : ReplyMessage) (kept : List Kept) (messages : List Message)
+      (states heard : ConnectionStates) (begin via : Outlets)
       → Does old new pair (step_of pair machine (Takes from answering)) kept messages
-      → ((side : Which) → HearsAll (lines side) (answer_in side (Takes from answering))
+      → ((side : Which) → HearsAll (states side) (answer_in side (Takes from answering))
       (heard side))
       → ((side : Which) → Writes (begin side) (via side) [] (via side).goes)
-      → stops new ≡ true → Drives new pair machine lines heard begin via
-  drives_taken old new pair machine from answering kept messages lines heard begin via
+      → stops new ≡ true → Drives new pair machine states heard begin via
+  drives_taken old new pair machine from answering kept messages states heard begin via
       (goes_on reached call step stands is_kept is_sent is_reported) hears reads stopped =
-      taken_down old new pair machine from answering call reached lines heard begin via step
+      taken_down old new pair machine from answering call reached states heard begin via step
       (inl stands) hears reads stopped
-  drives_taken old new pair machine from answering kept messages lines heard begin via
+  drives_taken old new pair machine from answering kept messages states heard begin via
       (goes_down reached call step cut down leaves is_kept tries) hears reads stopped =
-      taken_down old new pair machine from answering call reached lines heard begin via step
+      taken_down old new pair machine from answering call reached states heard begin via step
       (inr (record { stopped = cut; down = down; leaves = leaves; tries = tries })) hears reads
       stopped
 
@@ -379,39 +379,41 @@ module _ {D : Type 0} {disk : Ghosts D} where
 
   ends_at : (preference : Option Which) (stopped : Bool) (middle new : Coordinator D disk)
       (pair : ℕ)
-      (machine : CoordinatorMachine) (lines heard : Lines) (from to : Outlets)
-      (drives : Drives middle pair machine lines heard from to) → Begins preference drives.acts
+      (machine : CoordinatorMachine) (states heard : ConnectionStates) (from to : Outlets)
+      (drives : Drives middle pair machine states heard from to) → Begins preference drives.acts
       → (stops middle ≡ true → new ≡ middle)
       → ((now : CoordinatorMachine) → Stands middle pair now → Calls new pair now [])
       → stops middle ≡ stopped
-      → (whole : Drives new pair machine lines heard from to) × Begins preference whole.acts
+      → (whole : Drives new pair machine states heard from to) × Begins preference whole.acts
   unfolding drives_twice
-  ends_at preference true middle new pair machine lines heard from to drives begins same calls is =
+  ends_at preference true middle new pair machine states heard from to drives begins same calls is =
       subst
-      (λ m. (whole : Drives m pair machine lines heard from to) × Begins preference whole.acts)
+      (λ m. (whole : Drives m pair machine states heard from to) × Begins preference whole.acts)
       (sym (same is)) (drives, begins)
-  ends_at preference false middle new pair machine lines heard from to drives begins same calls is =
+  ends_at preference false middle new pair machine states heard from to drives begins same calls is
+      =
       let onward = drives_silent new pair drives.reached heard to
       (calls drives.reached (stands_of middle pair drives.reached drives.ends is)) in (
-        drives_twice middle new pair machine lines heard heard from to to drives is onward,
+        drives_twice middle new pair machine states heard heard from to to drives is onward,
         begins_more drives.acts onward.acts begins,
       )
 
   -- A whole session: it begins, goes on, and is given up where its machine goes on
   pub drives_whole : (preference : Option Which) (began middle new : Coordinator D disk) (pair : ℕ)
-      (machine : CoordinatorMachine) (messages : List Message) (lines sent later : Lines)
+      (machine : CoordinatorMachine) (messages : List Message)
+      (states sent later : ConnectionStates)
       (from via to : Outlets) (begun : Starting preference began pair machine messages)
-      → stops began ≡ false → ((side : Which) → sent side ≡ lines side)
+      → stops began ≡ false → ((side : Which) → sent side ≡ states side)
       → ((side : Which) → Writes (from side) (via side) (frames_to side messages)
       (via side).goes) → Drives middle pair (begun.0).reached sent later via to
       → (stops middle ≡ true → new ≡ middle)
       → ((now : CoordinatorMachine) → Stands middle pair now → Calls new pair now [])
-      → (whole : Drives new pair machine lines later from to) × Begins preference whole.acts
+      → (whole : Drives new pair machine states later from to) × Begins preference whole.acts
   unfolding drives_twice drives_calls
-  drives_whole preference began middle new pair machine messages lines sent later from via to begun
+  drives_whole preference began middle new pair machine messages states sent later from via to begun
       calm same writes went left calls =
-      let first = drives_calls began pair machine messages lines sent from via begun.0 calm same
+      let first = drives_calls began pair machine messages states sent from via begun.0 calm same
       writes in
-      ends_at preference (stops middle) middle new pair machine lines later from to
-      (drives_twice began middle pair machine lines sent later from via to first calm went)
+      ends_at preference (stops middle) middle new pair machine states later from to
+      (drives_twice began middle pair machine states sent later from via to first calm went)
       (begins_more (begun.0).acts went.acts begun.1) left calls refl

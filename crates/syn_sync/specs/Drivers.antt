@@ -2,13 +2,13 @@
 use Rattle.std.specs.Prelude.{Option}
 use Rattle.syn_headline.specs.Network.{Left, Right, Which}
 use Rattle.syn_link.specs.Frames.{Bytes}
-use Rattle.syn_sync.specs.Lines.{Line, line_of}
+use Rattle.syn_sync.specs.States.{ConnectionState, state_of}
 use Rattle.syn_sync.specs.Outlets.{Outlet, outlet_of}
 use Rattle.syn_sync.specs.declared.driver.Driver.{Driver}
 use Rattle.syn_sync.specs.declared.session_connection.SessionConnection.{SessionConnection}
 
-abbrev pub Lines : Type 0
-Lines = Which → Line
+abbrev pub ConnectionStates : Type 0
+ConnectionStates = Which → ConnectionState
 
 abbrev pub Outlets : Type 0
 Outlets = Which → Outlet
@@ -18,8 +18,8 @@ module _ {R W : Type 0} where
   link_at driver Left = driver.left
   link_at driver Right = driver.right
 
-  abbrev pub lines_of : (R → Option Bytes) → Driver R W → Lines
-  lines_of remaining driver side = line_of remaining (link_at driver side)
+  abbrev pub states_of : (R → Option Bytes) → Driver R W → ConnectionStates
+  states_of remaining driver side = state_of remaining (link_at driver side)
 
   abbrev pub outlets_of : (W → Option Bytes) → Driver R W → Outlets
   outlets_of contents driver side = outlet_of contents (link_at driver side)

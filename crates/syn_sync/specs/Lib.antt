@@ -1,4 +1,4 @@
-pub mod Lines
+pub mod States
 pub mod Outlets
 pub mod Drivers
 pub mod Runs

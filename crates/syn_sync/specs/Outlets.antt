@@ -2,7 +2,7 @@
 use Rattle.std.specs.Prelude.{◌≡◌, Bool, true, false, Option}
 use Rattle.std.specs.Io.KnownBytes.{Appends}
 use Rattle.syn_link.specs.Frames.{AppendsSome, Bytes}
-use Rattle.syn_sync.specs.Lines.{writer_of}
+use Rattle.syn_sync.specs.States.{writer_of}
 use Rattle.syn_sync.specs.declared.session_connection.SessionConnection.{SessionConnection}
 
 -- what was written, and whether the connection goes on

@@ -10,14 +10,14 @@ use Rattle.syn_headline.specs.Machine as status
 use Rattle.syn_headline.specs.MachineSteps.{Checkpoints}
 use Rattle.syn_headline.specs.Network.{Answers, Asks, Message, Which, is_side}
 use Rattle.syn_link.specs.Frames.{Bytes, frame_of}
-use Rattle.syn_message.specs.Replies.{Answering}
-use Rattle.syn_message.specs.Requests.{asking_spelling}
+use Rattle.syn_message.specs.Replies.{ReplyMessage}
+use Rattle.syn_message.specs.Requests.{request_spelling}
 use Rattle.syn_coordinator.specs.Coordinators.{Stands, device_of, tried_shown}
 use Rattle.syn_coordinator.specs.Machines.{LeavesMachine}
 use Rattle.syn_coordinator.specs.Tries.{Tries}
 use Rattle.syn_coordinator.specs.declared.coordinator.Coordinator.{Coordinator}
-use Rattle.syn_sync.specs.Drivers.{Lines, Outlets}
-use Rattle.syn_sync.specs.Lines.{HearsAll}
+use Rattle.syn_sync.specs.Drivers.{ConnectionStates, Outlets}
+use Rattle.syn_sync.specs.States.{HearsAll}
 use Rattle.syn_sync.specs.Outlets.{Writes}
 
 -- what a coordinator is called with: a start, which prefers a side or none, a checkpoint, a side's
@@ -25,7 +25,7 @@ use Rattle.syn_sync.specs.Outlets.{Writes}
 pub data Act : Type 0 where
   Starts : (preference : Option Which) → Act
   Compacts : Act
-  Takes : (from : Which) (answering : Answering) → Act
+  Takes : (from : Which) (answering : ReplyMessage) → Act
   Ticks : Act
 
 -- each with what the call gave
@@ -60,19 +60,19 @@ pub data Begins (preference : Option Which) : Acts → Type 0 where
       ∷ record { act = Starts preference; call = second } ∷ later)
 
 -- the replies of a side that the coordinator was given
-abbrev pub answer_in : Which → Act → List Answering
+abbrev pub answer_in : Which → Act → List ReplyMessage
 answer_in side (Takes from answering) = if is_side side from then answering ∷ [] else []
 answer_in side (Starts preference) = []
 answer_in side Compacts = []
 answer_in side Ticks = []
 
-abbrev pub answers_in : Which → Acts → List Answering
+abbrev pub answers_in : Which → Acts → List ReplyMessage
 answers_in side acts = flat_map (λ done. answer_in side done.act) acts
 
 -- the request to a side as its frame
 abbrev pub frame_to : Which → Message → Bytes
 frame_to side (Asks to session number request) = if is_side side to
-    then frame_of (asking_spelling (record {
+    then frame_of (request_spelling (record {
       session = session;
       number = number;
       request = request;
@@ -107,12 +107,13 @@ module _ {D : Type 0} {disk : Ghosts D} (new : Coordinator D disk) (pair : ℕ) 
   -- that it was given came from its side, in order. The frames of what it sent were written to
   -- their sides, in order: all where the connection goes on and no machine went down, else a
   -- beginning
-  pub record Drives (machine : CoordinatorMachine) (lines heard : Lines) (from to : Outlets)
+  pub record Drives (machine : CoordinatorMachine) (states heard : ConnectionStates)
+      (from to : Outlets)
       : Type 0 where
     pub acts : Acts
     pub reached : CoordinatorMachine
     pub leads : Leads pair machine acts reached
     pub ends : Stands new pair reached ⊎ Down reached
-    pub hears : (side : Which) → HearsAll (lines side) (answers_in side acts) (heard side)
+    pub hears : (side : Which) → HearsAll (states side) (answers_in side acts) (heard side)
     pub writes : (side : Which) → Writes (from side) (to side) (frames_in side acts)
         ((to side).goes && not (is_stopped (disk.arms (device_of new))))

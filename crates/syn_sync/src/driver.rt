@@ -4,15 +4,15 @@ ghost use Rattle.std.specs.Prelude.{Some, option_map};
 ghost use Rattle.syn_disk.specs.Arms.{is_stopped};
 ghost use Rattle.syn_headline.specs.Coordinator.{CoordinatorMachine};
 ghost use Rattle.syn_headline.specs.Network.{Left, Right, Which};
-ghost use Rattle.syn_message.specs.Replies.{IsLawfulAnswering, answering_of};
+ghost use Rattle.syn_message.specs.Replies.{IsLawfulReplyMessage, reply_message_of};
 ghost use Rattle.syn_path.specs.Sides.{which_of};
 ghost use Rattle.syn_model.specs.Refusal.{JournalFull, first_cause};
 ghost use Rattle.syn_refusal.specs.Refusals.{cause_of};
 ghost use Rattle.syn_coordinator.specs.Coordinators.{Does, Stands, archive_of, device_of, runs};
 ghost use Rattle.syn_coordinator.specs.Coordinators.{all_causes, is_waiting, written};
 ghost use Rattle.syn_session.specs.Sendings.{message_of, messages_of};
-ghost use Rattle.syn_sync.specs.Drivers.{Lines, lines_of, link_at, outlets_of};
-ghost use Rattle.syn_sync.specs.Lines.{HearsAll};
+ghost use Rattle.syn_sync.specs.Drivers.{ConnectionStates, states_of, link_at, outlets_of};
+ghost use Rattle.syn_sync.specs.States.{HearsAll};
 ghost use Rattle.syn_sync.specs.Outlets.{Writes};
 ghost use Rattle.syn_sync.specs.Refusals.{Refuses};
 ghost use Rattle.syn_sync.specs.Runs.{Begins, Drives, Takes, answer_in, frame_to, frames_to};
@@ -79,8 +79,8 @@ impl<R: Read, W: Write> Driver<R, W> {
     ) -> Result<(), Refusal>
         ensures drives { (pair : ℕ) (machine : CoordinatorMachine)
             → Stands coordinator.old pair machine
-            → (heard : Lines) × (drives : Drives coordinator.new pair machine
-            (lines_of R.remaining self.old) heard
+            → (heard : ConnectionStates) × (drives : Drives coordinator.new pair machine
+            (states_of R.remaining self.old) heard
             (outlets_of W.contents self.old) (outlets_of W.contents self.new))
             × OnOk result (Begins (option_map which_of preference) drives.acts) }
         ensures refused { (pair : ℕ) (machine : CoordinatorMachine)
@@ -116,8 +116,8 @@ impl<R: Read, W: Write> Driver<R, W> {
         requires goes { is_stopped (D.Disk.arms (device_of coordinator.old)) ≡ false }
         ensures { (pair : ℕ) (machine : CoordinatorMachine)
             → Stands coordinator.old pair machine
-            → (heard : Lines) × Drives coordinator.new pair machine
-            (lines_of R.remaining self.old) heard
+            → (heard : ConnectionStates) × Drives coordinator.new pair machine
+            (states_of R.remaining self.old) heard
             (outlets_of W.contents self.old) (outlets_of W.contents self.new) }
     {
         for _ in 0..u64::MAX {
@@ -179,10 +179,11 @@ impl<R: Read, W: Write> Driver<R, W> {
     /// The next reply of the side; none where its link is closed, or comes to be.
     fn receive(&mut self, alloc: Global, from: Side) -> Option<ReplyMessage>
         ensures heard { IfSome result (λ answered. (side : Which)
-            → HearsAll (lines_of R.remaining self.old side)
-            (answer_in side (Takes (which_of from) (answering_of answered)))
-            (lines_of R.remaining self.new side)) }
-        ensures lawful { IfSome result (λ answered. IsLawfulAnswering (answering_of answered)) }
+            → HearsAll (states_of R.remaining self.old side)
+            (answer_in side (Takes (which_of from) (reply_message_of answered)))
+            (states_of R.remaining self.new side)) }
+        ensures lawful { IfSome result
+            (λ answered. IsLawfulReplyMessage (reply_message_of answered)) }
         ensures written { (side : Which) → Writes (outlets_of W.contents self.old side)
             (outlets_of W.contents self.new side) []
             (outlets_of W.contents self.new side).goes }
@@ -198,8 +199,8 @@ impl<R: Read, W: Write> Driver<R, W> {
         ensures written { (side : Which) → Writes (outlets_of W.contents self.old side)
             (outlets_of W.contents self.new side) (frames_to side (messages_of sends.now))
             (outlets_of W.contents self.new side).goes }
-        ensures lines { (side : Which) → lines_of R.remaining self.new side
-            ≡ lines_of R.remaining self.old side }
+        ensures states { (side : Which) → states_of R.remaining self.new side
+            ≡ states_of R.remaining self.old side }
     {
         for sending in sends {
             self.send(alloc, sending);
@@ -212,8 +213,8 @@ impl<R: Read, W: Write> Driver<R, W> {
             (outlets_of W.contents self.new side)
             (frame_to side (message_of sending.now))
             (outlets_of W.contents self.new side).goes }
-        ensures lines { (side : Which) → lines_of R.remaining self.new side
-            ≡ lines_of R.remaining self.old side }
+        ensures states { (side : Which) → states_of R.remaining self.new side
+            ≡ states_of R.remaining self.old side }
     {
         match sending.to {
             Side::Left => self.left.send(alloc, &sending.asked),
@@ -245,10 +246,10 @@ fn hear<D: Disk>(
     from: Side,
     answered: ReplyMessage,
 ) -> Vec<Sending>
-    requires { IsLawfulAnswering (answering_of answered) }
+    requires { IsLawfulReplyMessage (reply_message_of answered) }
     ensures { (pair : ℕ) (machine : CoordinatorMachine) → Stands coordinator.old pair machine
         → Does coordinator.old coordinator.new pair
-        (step_of pair machine (Takes (which_of from) (answering_of answered)))
+        (step_of pair machine (Takes (which_of from) (reply_message_of answered)))
         (written coordinator.new) (messages_of result.items) }
 {
     let ReplyMessage {

@@ -11,12 +11,12 @@
 //! writer. The coordinator stays what decides: the driver carries its requests out and the replies
 //! in.
 //!
-//! - A link is a `Line` to its contracts, of what is read: what the reader is to give, and what
-//!   came and was not handed out. It is an `Outlet`, of what is written: that, and whether the
-//!   connection goes on.
+//! - A link is a `ConnectionState` to its contracts, of what is read: what the reader is to give,
+//!   and what came and was not handed out. It is an `Outlet`, of what is written: that, and whether
+//!   the connection goes on.
 //! - `send` writes a request as one frame (`written`: `Writes`). The connection goes on exactly
 //!   where the frame was written whole; else a beginning of it was written, and it is closed. On a
-//!   closed one nothing is written. What is read stays (`line`).
+//!   closed one nothing is written. What is read stays (`state`).
 //! - `receive` hands out the reply in the first frame of what came (`heard`: `Hears`). It gives
 //!   none where the connection is closed, and then it stays closed (`closed`). What closes it is
 //!   its end, a read that fails, a bad frame, a body that is no reply, or lack of memory. Nothing

@@ -1,9 +1,9 @@
 //! A connection to a side.
 ghost use Rattle.std.specs.Prelude.{◌≡◌, ◌↔◌, [], true, false, IfNone, IfSome, None};
 ghost use Rattle.syn_link.specs.Frames.{IsFront, frame_of};
-ghost use Rattle.syn_message.specs.Replies.{answering_of};
-ghost use Rattle.syn_message.specs.Requests.{asking_of, asking_spelling};
-ghost use Rattle.syn_sync.specs.Lines.{Hears, held_by, is_open, line_of, reader_of, writer_of};
+ghost use Rattle.syn_message.specs.Replies.{reply_message_of};
+ghost use Rattle.syn_message.specs.Requests.{request_message_of, request_spelling};
+ghost use Rattle.syn_sync.specs.States.{Hears, held_by, is_open, state_of, reader_of, writer_of};
 ghost use Rattle.syn_sync.specs.Outlets.{Adds, Writes, outlet_of};
 
 use std::alloc::Global;
@@ -60,8 +60,8 @@ impl<R: Read, W: Write> SessionConnection<R, W> {
     /// connection is closed. On a closed one nothing is written.
     pub fn send(&mut self, alloc: Global, asked: &RequestMessage)
         ensures written { Writes (outlet_of W.contents self.old) (outlet_of W.contents self.new)
-            (frame_of (asking_spelling (asking_of asked.now))) (is_open self.new) }
-        ensures line { line_of R.remaining self.new ≡ line_of R.remaining self.old }
+            (frame_of (request_spelling (request_message_of asked.now))) (is_open self.new) }
+        ensures state { state_of R.remaining self.new ≡ state_of R.remaining self.old }
     {
         if self.open {
             self.open = self.write(alloc, asked);
@@ -71,8 +71,9 @@ impl<R: Read, W: Write> SessionConnection<R, W> {
     /// Writes the request as a frame, and answers whether it is written whole.
     fn write(&mut self, alloc: Global, asked: &RequestMessage) -> bool
         ensures written { Adds result (W.contents (writer_of self.old))
-            (W.contents (writer_of self.new)) (frame_of (asking_spelling (asking_of asked.now))) }
-        ensures line { line_of R.remaining self.new ≡ line_of R.remaining self.old }
+            (W.contents (writer_of self.new))
+            (frame_of (request_spelling (request_message_of asked.now))) }
+        ensures state { state_of R.remaining self.new ≡ state_of R.remaining self.old }
     {
         match encode_request(alloc, asked) {
             Ok(body) => self.connection.send(&body).is_ok(),
@@ -82,8 +83,8 @@ impl<R: Read, W: Write> SessionConnection<R, W> {
 
     /// The next reply; none where the connection is closed, or comes to be.
     pub fn receive(&mut self, alloc: Global) -> Option<ReplyMessage>
-        ensures heard { IfSome result (λ answered. Hears (line_of R.remaining self.old)
-            (line_of R.remaining self.new) (answering_of answered)) }
+        ensures heard { IfSome result (λ answered. Hears (state_of R.remaining self.old)
+            (state_of R.remaining self.new) (reply_message_of answered)) }
         ensures closed { IfNone result (is_open self.new ≡ false) }
         ensures written { Writes (outlet_of W.contents self.old) (outlet_of W.contents self.new) []
             (is_open self.new) }
@@ -98,8 +99,8 @@ impl<R: Read, W: Write> SessionConnection<R, W> {
 
     /// The reply in the next frame; none where no frame comes, or its body is no reply.
     fn read(&mut self, alloc: Global) -> Option<ReplyMessage>
-        ensures heard { IfSome result (λ answered. Hears (line_of R.remaining self.old)
-            (line_of R.remaining self.new) (answering_of answered)) }
+        ensures heard { IfSome result (λ answered. Hears (state_of R.remaining self.old)
+            (state_of R.remaining self.new) (reply_message_of answered)) }
         ensures written { writer_of self.new ≡ writer_of self.old }
     {
         match self.connection.receive(alloc) {

@@ -9,7 +9,7 @@ use Rattle.std.specs.Prelude.{Result, Ok, Err, IfErr, IfOk}
 use Rattle.syn_headline.specs.Side.{ListAt, Piece, Refused, Request}
 use Rattle.syn_link.specs.Frames.{Bytes, frame_of}
 use Rattle.syn_message.specs.Replies.{reply_of}
-use Rattle.syn_message.specs.Requests.{IsLawfulAsking, asking_spelling}
+use Rattle.syn_message.specs.Requests.{IsLawfulRequestMessage, request_spelling}
 use Rattle.syn_message.specs.declared.reply.Reply.{Reply}
 use Rattle.syn_message.specs.declared.reply.Reply.TheVariants as told
 use Rattle.syn_model.specs.Refusal.{Touched}
@@ -18,51 +18,51 @@ use Rattle.syn_model.specs.Tree.{Tree}
 use Rattle.syn_refusal.specs.declared.refusal.Refusal.{Refusal}
 use Rattle.syn_user.specs.Sides.{ArePiecesOf, AreFetched, AreOfNoTree, IsHeard, IsNoListing}
 use Rattle.syn_user.specs.Sides.{IsNoPiece, IsReplied, IsTouchedSince, IsUnanswered, IsUnheard}
-use Rattle.syn_user.specs.Sides.{IsListing, NoPiece, NoPieces, NoPosition, Pieces, SideLine}
-use Rattle.syn_user.specs.Sides.{asking_at, bytes_of, no_memory, no_piece, no_tree, root_from}
+use Rattle.syn_user.specs.Sides.{IsListing, NoPiece, NoPieces, NoPosition, Pieces, SideState}
+use Rattle.syn_user.specs.Sides.{message_at, bytes_of, no_memory, no_piece, no_tree, root_from}
 use Rattle.syn_user.specs.Sides.{rootless, unheard}
 use Rattle.syn_user.specs.declared.error.UserError.{UserError}
 use Rattle.syn_user.specs.declared.error.UserError.TheVariants as has
 
--- the line with all of it but the next number
-abbrev pub line_with : SideLine → Option Bytes → Bytes → Option Bytes → SideLine
-line_with line given held written = record {
+-- the state with all of it but the next number
+abbrev pub state_with : SideState → Option Bytes → Bytes → Option Bytes → SideState
+state_with state given held written = record {
   given = given;
   held = held;
   written = written;
-  next = line.next;
+  next = state.next;
 }
 
--- the line once a request was written
-abbrev pub sent_line : SideLine → Option Bytes → SideLine
-sent_line line = line_with line line.given line.held
+-- the state once a request was written
+abbrev pub sent_state : SideState → Option Bytes → SideState
+sent_state state = state_with state state.given state.held
 
 -- nothing was read as it was written
-pub sent_from : (old : SideLine) (given : Option Bytes) (held : Bytes) (written : Option Bytes)
+pub sent_from : (old : SideState) (given : Option Bytes) (held : Bytes) (written : Option Bytes)
     → given ≡ old.given → held ≡ old.held
-    → line_with old given held written ≡ sent_line old written
-sent_from old given held written = ap₂ (λ g h. line_with old g h written)
+    → state_with old given held written ≡ sent_state old written
+sent_from old given held written = ap₂ (λ g h. state_with old g h written)
 
 -- a request that was written is replied to by what is heard then
-pub replied_so : (old new : SideLine) (request : Request) (written : Option Bytes)
-    → IsLawfulAsking (asking_at old request)
-    → Appends old.written written (frame_of (asking_spelling (asking_at old request)))
+pub replied_so : (old new : SideState) (request : Request) (written : Option Bytes)
+    → IsLawfulRequestMessage (message_at old request)
+    → Appends old.written written (frame_of (request_spelling (message_at old request)))
     → new.written ≡ written → (r : Result Reply UserError)
-    → IfOk r (λ reply. IsHeard (sent_line old written) new (reply_of reply))
+    → IfOk r (λ reply. IsHeard (sent_state old written) new (reply_of reply))
     → IfOk r (λ reply. IsReplied old new request (reply_of reply))
 replied_so old new request written lawful adds same r =
-    IfOk-weaker r (λ reply. IsHeard (sent_line old written) new (reply_of reply))
+    IfOk-weaker r (λ reply. IsHeard (sent_state old written) new (reply_of reply))
     (λ reply. IsReplied old new request (reply_of reply)) (λ reply heard. record {
       asked = record {
         lawful = lawful;
         written = subst (λ w. Appends old.written w
-            (frame_of (asking_spelling (asking_at old request)))) (sym same) adds;
+            (frame_of (request_spelling (message_at old request)))) (sym same) adds;
       };
       heard = record { lawful = heard.lawful; came = heard.came; next = heard.next };
     })
 
-unheard_before : (old new : SideLine) (written : Option Bytes) (error : UserError)
-    → IsUnheard (sent_line old written) new error → IsUnheard old new error
+unheard_before : (old new : SideState) (written : Option Bytes) (error : UserError)
+    → IsUnheard (sent_state old written) new error → IsUnheard old new error
 unheard_before old new written (has.Refused why) is = is
 unheard_before old new written has.Device is = is
 unheard_before old new written has.Memory is = is
@@ -71,18 +71,18 @@ unheard_before old new written has.TooLarge is = is
 unheard_before old new written has.BadMessage is = is
 
 -- and where nothing is heard then, it is not answered
-pub unanswered_so : (old new : SideLine) (request : Request) (written : Option Bytes)
-    → IsLawfulAsking (asking_at old request)
-    → Appends old.written written (frame_of (asking_spelling (asking_at old request)))
+pub unanswered_so : (old new : SideState) (request : Request) (written : Option Bytes)
+    → IsLawfulRequestMessage (message_at old request)
+    → Appends old.written written (frame_of (request_spelling (message_at old request)))
     → new.written ≡ written → (r : Result Reply UserError)
-    → IfErr r (IsUnheard (sent_line old written) new)
+    → IfErr r (IsUnheard (sent_state old written) new)
     → IfErr r (IsUnanswered old new request)
 unanswered_so old new request written lawful adds same (Ok reply) is = is
 unanswered_so old new request written lawful adds same (Err error) is = unheard
     (record {
       lawful = lawful;
       written = subst (λ w. Appends old.written w
-          (frame_of (asking_spelling (asking_at old request)))) (sym same) adds;
+          (frame_of (request_spelling (message_at old request)))) (sym same) adds;
     }) (unheard_before old new written error is)
 
 -- a reply that no listing is answered with
@@ -101,7 +101,7 @@ foreign_reply told.Done no_list no_directory no_refusal = tt
 foreign_reply (told.Refused why) no_list no_directory no_refusal = absurd (no_refusal why refl)
 
 -- the root is listed as no directory, where the reply to its listing has no names
-pub rootless_so : (old new : SideLine) (reply : Reply) → IsListing (reply_of reply)
+pub rootless_so : (old new : SideState) (reply : Reply) → IsListing (reply_of reply)
     → ((position : _) (entries : _) → reply ≡ told.Listed position entries → ⊥)
     → IsReplied old new (ListAt []) (reply_of reply) → NoPosition old new has.BadMessage
 rootless_so old new (told.Begun position) lists no_list is = absurd lists
@@ -127,7 +127,7 @@ foreign_to_piece told.Done no_piece_is no_refusal = tt
 foreign_to_piece (told.Refused why) no_piece_is no_refusal = absurd (no_refusal why refl)
 
 -- one piece more, from where those before it ended
-pub fetched_more : (position offset end : ℕ) (a b c : SideLine) (pieces : Pieces)
+pub fetched_more : (position offset end : ℕ) (a b c : SideState) (pieces : Pieces)
     (piece : ℕ × Bytes) → offset + length (bytes_of pieces) ≡ end
     → AreFetched position a offset pieces b
     → IsReplied b c (root_from position end) (Piece piece.0 piece.1)
@@ -150,12 +150,12 @@ fetched_more position offset end a b c (first ∷ more) piece ends (between, rep
     )
 
 -- pieces that came, and what they are one after the other
-abbrev pub Gathers : ℕ → SideLine → SideLine → Bytes → Type 0
+abbrev pub Gathers : ℕ → SideState → SideState → Bytes → Type 0
 Gathers position a b bytes = (pieces : Pieces) × AreFetched position a 0 pieces b
     × (bytes_of pieces ≡ bytes)
 
 -- a piece that was asked for from where those before it ended, and the refusal where it was touched
-module _ (position : ℕ) (a b c : SideLine) (bytes : Bytes) (offset : ℕ)
+module _ (position : ℕ) (a b c : SideState) (bytes : Bytes) (offset : ℕ)
     (ends : offset ≡ length bytes) where
   abbrev pub piece_gathered : (more : Bytes) (total : ℕ) → Gathers position a b bytes
       → IsReplied b c (root_from position offset) (Piece total more)
@@ -186,7 +186,7 @@ module _ (position : ℕ) (a b c : SideLine) (bytes : Bytes) (offset : ℕ)
       (subst (λ n. NoPiece position n b c error) (ends ∙ ap length (sym same)) is)
 
 -- no tree comes of the pieces, which are of none, or for which memory is wanting
-pub refused_so : (position : ℕ) (a b : SideLine) (pieces : Pieces) (error : UserError)
+pub refused_so : (position : ℕ) (a b : SideState) (pieces : Pieces) (error : UserError)
     → AreFetched position a 0 pieces b
     → ((error ≡ has.BadMessage) × AreOfNoTree pieces) ⊎ (error ≡ has.Memory)
     → NoPieces position a b error
@@ -195,7 +195,7 @@ refused_so position a b pieces error came (inl (is, none)) =
 refused_so position a b pieces error came (inr is) =
     subst (NoPieces position a b) (sym is) (no_memory pieces came)
 
-pub pieces_of : (position : ℕ) (a b : SideLine) (bytes : Bytes) (tree : Tree)
+pub pieces_of : (position : ℕ) (a b : SideState) (bytes : Bytes) (tree : Tree)
     → Gathers position a b bytes → spelling tree ≡ bytes → ArePiecesOf position a b tree
 pieces_of position a b bytes tree (pieces, came, same) spells =
     record { pieces = pieces; came = came; spells = same ∙ sym spells }

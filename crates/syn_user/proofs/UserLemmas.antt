@@ -3,28 +3,29 @@ use Rattle.std.proofs.Common.{◌≡◌, ℕ, Bool, true, false, refl, sym, ap, 
 use Rattle.std.specs.Io.KnownBytes.{Appends}
 use Rattle.std.specs.Prelude.{Result, Ok, Err, IfErr, IfOk}
 use Rattle.syn_link.specs.Frames.{frame_of}
-use Rattle.syn_message.specs.UserReplies.{told_of}
-use Rattle.syn_message.specs.Users.{IsLawfulWished, Wish, Wished, wished_spelling}
+use Rattle.syn_message.specs.UserReplies.{user_reply_of}
+use Rattle.syn_message.specs.Users.{IsLawfulUserRequestMessage, UserRequest, UserRequestMessage}
+use Rattle.syn_message.specs.Users.{user_request_spelling}
 use Rattle.syn_message.specs.declared.user_reply.UserReply.{UserReply}
 use Rattle.syn_model.specs.Path.{Bytes}
 use Rattle.syn_user.specs.Exchanges as failed
 use Rattle.syn_user.specs.Exchanges.{BreaksOff, Fails, IsHeard, IsSent, IsUnheard}
-use Rattle.syn_user.specs.Exchanges.{goes_on_after, number_after, wished_at}
-use Rattle.syn_user.specs.Lines.{IsUnread, Line}
+use Rattle.syn_user.specs.Exchanges.{goes_on_after, number_after, request_at}
+use Rattle.syn_user.specs.States.{IsUnread, ConnectionState}
 use Rattle.syn_user.specs.declared.error.UserError.{UserError}
 use Rattle.syn_user.specs.declared.error.UserError.TheVariants.{BadFrame, BadMessage, Device}
 use Rattle.syn_user.specs.declared.error.UserError.TheVariants.{Memory, Refused, TooLarge}
 use Rattle.syn_user.specs.inner.Parts as part
 use Rattle.syn_user.specs.inner.Parts.{Breaks, HasNoBody, IsAnswered, IsSilent, is_refusal}
 
--- the line with another word on whether it goes on
-abbrev pub with_goes : Line → Bool → Line
-with_goes line goes = record {
-  given = line.given;
-  held = line.held;
-  written = line.written;
+-- the state with another word on whether it goes on
+abbrev pub with_goes : ConnectionState → Bool → ConnectionState
+with_goes state goes = record {
+  given = state.given;
+  held = state.held;
+  written = state.written;
   goes = goes;
-  next = line.next;
+  next = state.next;
 }
 
 -- what is left of a reply that may be refused
@@ -38,53 +39,55 @@ if_err : {A E : Type 0} → (P Q : E → Type 0) (r : Result A E) → ((e : E) �
 if_err P Q (Ok a) to holds = holds
 if_err P Q (Err e) to holds = to e holds
 
--- the line with all of it but whether it goes on
-abbrev pub line_with : Line → Option Bytes → Bytes → Option Bytes → ℕ → Line
-line_with line given held written next = record {
+-- the state with all of it but whether it goes on
+abbrev pub state_with : ConnectionState → Option Bytes → Bytes → Option Bytes → ℕ → ConnectionState
+state_with state given held written next = record {
   given = given;
   held = held;
   written = written;
-  goes = line.goes;
+  goes = state.goes;
   next = next;
 }
 
--- the line after a request that was written
-abbrev pub sent_line : Line → Option Bytes → ℕ → Line
-sent_line line = line_with line line.given line.held
+-- the state after a request that was written
+abbrev pub sent_state : ConnectionState → Option Bytes → ℕ → ConnectionState
+sent_state state = state_with state state.given state.held
 
 -- nothing was read as it was written
-pub sent_from : (old : Line) (given : Option Bytes) (held : Bytes) (written : Option Bytes)
+pub sent_from : (old : ConnectionState) (given : Option Bytes) (held : Bytes)
+    (written : Option Bytes)
     (next : ℕ) → given ≡ old.given → held ≡ old.held
-    → line_with old given held written next ≡ sent_line old written next
-sent_from old given held written next = ap₂ (λ g h. line_with old g h written next)
+    → state_with old given held written next ≡ sent_state old written next
+sent_from old given held written next = ap₂ (λ g h. state_with old g h written next)
 
-module _ (old new : Line) (wished : Wished) (written : Option Bytes) (next : ℕ)
-    (lawful : IsLawfulWished wished)
-    (adds : Appends old.written written (frame_of (wished_spelling wished)))
-    (follows : next ≡ number_after wished.number)
-    (silent : IsSilent (sent_line old written next) new) where
-  sent_whole : IsSent old new wished
+module _ (old new : ConnectionState) (asked : UserRequestMessage) (written : Option Bytes)
+    (next : ℕ)
+    (lawful : IsLawfulUserRequestMessage asked)
+    (adds : Appends old.written written (frame_of (user_request_spelling asked)))
+    (follows : next ≡ number_after asked.number)
+    (silent : IsSilent (sent_state old written next) new) where
+  sent_whole : IsSent old new asked
   sent_whole = record {
     lawful = lawful;
-    written = subst (λ w. Appends old.written w (frame_of (wished_spelling wished)))
+    written = subst (λ w. Appends old.written w (frame_of (user_request_spelling asked)))
         (sym silent.0) adds;
     next = silent.2 ∙ follows;
   }
 
   -- it was sent, and a reply to it came
   pub answered_so : (r : Result UserReply UserError)
-      → IfOk r (λ reply. IsHeard (sent_line old written next) new wished (told_of reply))
-      → IfOk r (λ reply. IsAnswered old new wished (told_of reply))
+      → IfOk r (λ reply. IsHeard (sent_state old written next) new asked (user_reply_of reply))
+      → IfOk r (λ reply. IsAnswered old new asked (user_reply_of reply))
   answered_so r = if_ok
-      (λ reply. IsHeard (sent_line old written next) new wished (told_of reply))
-      (λ reply. IsAnswered old new wished (told_of reply)) r
+      (λ reply. IsHeard (sent_state old written next) new asked (user_reply_of reply))
+      (λ reply. IsAnswered old new asked (user_reply_of reply)) r
       (λ reply heard. record {
         sent = sent_whole;
         heard = record { answers = heard.answers; lawful = heard.lawful; came = heard.came };
       })
 
-  unheard_before : (why : UserError) → IsUnheard (sent_line old written next) new wished why
-      → IsUnheard old new wished why
+  unheard_before : (why : UserError) → IsUnheard (sent_state old written next) new asked why
+      → IsUnheard old new asked why
   unheard_before (Refused why) unheard = unheard
   unheard_before Device unheard = unheard
   unheard_before Memory unheard = unheard
@@ -94,61 +97,64 @@ module _ (old new : Line) (wished : Wished) (written : Option Bytes) (next : ℕ
 
   -- it was sent, and none came
   pub unanswered_so : (r : Result UserReply UserError)
-      → IfErr r (λ why. IsUnheard (sent_line old written next) new wished why)
-      → IfErr r (λ why. Breaks old new wished why)
-  unanswered_so r = if_err (λ why. IsUnheard (sent_line old written next) new wished why)
-      (λ why. Breaks old new wished why) r
+      → IfErr r (λ why. IsUnheard (sent_state old written next) new asked why)
+      → IfErr r (λ why. Breaks old new asked why)
+  unanswered_so r = if_err (λ why. IsUnheard (sent_state old written next) new asked why)
+      (λ why. Breaks old new asked why) r
       (λ why unheard. part.unheard why sent_whole (unheard_before why unheard))
 
 -- a request that has no body was not sent
-pub no_body : (line : Line) (wished : Wished) (why : UserError) → HasNoBody wished why
-    → Breaks line line wished why
-no_body line wished why (part.too_long long) = part.too_long long refl
-no_body line wished why part.wanting = part.unsent Memory refl (refl, refl)
+pub no_body : (state : ConnectionState) (asked : UserRequestMessage) (why : UserError)
+    → HasNoBody asked why
+    → Breaks state state asked why
+no_body state asked why (part.too_long long) = part.too_long long refl
+no_body state asked why part.wanting = part.unsent Memory refl (refl, refl)
 
-sent_with : (old new : Line) (wished : Wished) (goes : Bool) → IsSent old new wished
-    → IsSent old (with_goes new goes) wished
-sent_with old new wished goes sent =
+sent_with : (old new : ConnectionState) (asked : UserRequestMessage) (goes : Bool)
+    → IsSent old new asked
+    → IsSent old (with_goes new goes) asked
+sent_with old new asked goes sent =
     record { lawful = sent.lawful; written = sent.written; next = sent.next }
 
-unsent_of : (old new : Line) (wish : Wish) (why : UserError) → old.goes ≡ true
-    → BreaksOff old new (wished_at old wish) why → IsUnread old new
-    → Fails old (with_goes new (is_refusal why)) wish why
-unsent_of old new wish (Refused why) was broken unread = absurd broken
-unsent_of old new wish Device was broken unread = failed.unsent Device was broken unread refl
-unsent_of old new wish Memory was broken unread = failed.unsent Memory was broken unread refl
-unsent_of old new wish BadFrame was broken unread = absurd broken
-unsent_of old new wish TooLarge was broken unread = absurd broken
-unsent_of old new wish BadMessage was broken unread = absurd broken
+unsent_of : (old new : ConnectionState) (request : UserRequest) (why : UserError) → old.goes ≡ true
+    → BreaksOff old new (request_at old request) why → IsUnread old new
+    → Fails old (with_goes new (is_refusal why)) request why
+unsent_of old new request (Refused why) was broken unread = absurd broken
+unsent_of old new request Device was broken unread = failed.unsent Device was broken unread refl
+unsent_of old new request Memory was broken unread = failed.unsent Memory was broken unread refl
+unsent_of old new request BadFrame was broken unread = absurd broken
+unsent_of old new request TooLarge was broken unread = absurd broken
+unsent_of old new request BadMessage was broken unread = absurd broken
 
-unheard_of : (old new : Line) (wish : Wish) (why : UserError) → old.goes ≡ true
-    → IsSent old new (wished_at old wish) → IsUnheard old new (wished_at old wish) why
-    → Fails old (with_goes new (is_refusal why)) wish why
-unheard_of old new wish (Refused why) was sent unheard = absurd unheard
-unheard_of old new wish Device was sent unheard =
+unheard_of : (old new : ConnectionState) (request : UserRequest) (why : UserError) → old.goes ≡ true
+    → IsSent old new (request_at old request) → IsUnheard old new (request_at old request) why
+    → Fails old (with_goes new (is_refusal why)) request why
+unheard_of old new request (Refused why) was sent unheard = absurd unheard
+unheard_of old new request Device was sent unheard =
     failed.unheard Device was (sent_with old new _ false sent) unheard refl
-unheard_of old new wish Memory was sent unheard =
+unheard_of old new request Memory was sent unheard =
     failed.unheard Memory was (sent_with old new _ false sent) unheard refl
-unheard_of old new wish BadFrame was sent unheard =
+unheard_of old new request BadFrame was sent unheard =
     failed.unheard BadFrame was (sent_with old new _ false sent) unheard refl
-unheard_of old new wish TooLarge was sent unheard =
+unheard_of old new request TooLarge was sent unheard =
     failed.unheard TooLarge was (sent_with old new _ false sent) unheard refl
-unheard_of old new wish BadMessage was sent unheard =
+unheard_of old new request BadMessage was sent unheard =
     failed.unheard BadMessage was (sent_with old new _ false sent) unheard refl
 
 -- what breaks an exchange closes a connection that is open, but where the request was too long
-pub fails_so : (old new : Line) (wish : Wish) (why : UserError) → old.goes ≡ true
-    → Breaks old new (wished_at old wish) why
-    → Fails old (with_goes new (is_refusal why)) wish why
-fails_so old new wish why was (part.too_long long is) =
+pub fails_so : (old new : ConnectionState) (request : UserRequest) (why : UserError) → old.goes
+    ≡ true
+    → Breaks old new (request_at old request) why
+    → Fails old (with_goes new (is_refusal why)) request why
+fails_so old new request why was (part.too_long long is) =
     failed.too_long was long (ap (λ l. with_goes l true) is ∙ ap (with_goes old) (sym was))
-fails_so old new wish why was (part.unsent error broken unread) =
-    unsent_of old new wish error was broken unread
-fails_so old new wish why was (part.unheard error sent unheard) =
-    unheard_of old new wish error was sent unheard
+fails_so old new request why was (part.unsent error broken unread) =
+    unsent_of old new request error was broken unread
+fails_so old new request why was (part.unheard error sent unheard) =
+    unheard_of old new request error was sent unheard
 
-module _ (A : Type 0) (old new : Line) (wish : Wish) where
-  unsent_goes : (why : UserError) → BreaksOff old new (wished_at old wish) why
+module _ (A : Type 0) (old new : ConnectionState) (request : UserRequest) where
+  unsent_goes : (why : UserError) → BreaksOff old new (request_at old request) why
       → new.goes ≡ false → new.goes ≡ goes_on_after {A = A} (Err why)
   unsent_goes (Refused why) broken shut = absurd broken
   unsent_goes Device broken shut = shut
@@ -157,7 +163,7 @@ module _ (A : Type 0) (old new : Line) (wish : Wish) where
   unsent_goes TooLarge broken shut = shut
   unsent_goes BadMessage broken shut = shut
 
-  unheard_goes : (why : UserError) → IsUnheard old new (wished_at old wish) why
+  unheard_goes : (why : UserError) → IsUnheard old new (request_at old request) why
       → new.goes ≡ false → new.goes ≡ goes_on_after {A = A} (Err why)
   unheard_goes (Refused why) unheard shut = absurd unheard
   unheard_goes Device unheard shut = shut
@@ -167,7 +173,7 @@ module _ (A : Type 0) (old new : Line) (wish : Wish) where
   unheard_goes BadMessage unheard shut = shut
 
   -- it goes on after a refusal of the replica alone
-  pub fails_goes : (why : UserError) → Fails old new wish why
+  pub fails_goes : (why : UserError) → Fails old new request why
       → new.goes ≡ goes_on_after {A = A} (Err why)
   fails_goes why (failed.refused refusal told) = told.goes
   fails_goes why (failed.too_long was long is) = ap (λ l. l.goes) is ∙ was
@@ -176,7 +182,7 @@ module _ (A : Type 0) (old new : Line) (wish : Wish) where
   fails_goes why (failed.unheard error was sent unheard shut) = unheard_goes error unheard shut
 
   -- on a closed connection 9 is answered
-  pub fails_closed : (why : UserError) → old.goes ≡ false → Fails old new wish why → why ≡ Device
+  pub fails_closed : (why : UserError) → old.goes ≡ false → Fails old new request why → why ≡ Device
   fails_closed why shut (failed.refused refusal told) = let went = told.went in absurd cc
   fails_closed why shut (failed.too_long was long is) = absurd cc
   fails_closed why shut (failed.closed is same) = refl

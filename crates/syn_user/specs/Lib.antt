@@ -1,5 +1,5 @@
 pub mod Refusals
-pub mod Lines
+pub mod States
 pub mod Exchanges
 pub mod inner
 pub mod Sides

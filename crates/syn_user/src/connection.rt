@@ -1,12 +1,13 @@
 //! A user's connection, and the requests over it.
 ghost use Rattle.std.specs.Prelude.{◌≡◌, [], Err, IfErr, IfOk, false, option_map, true};
-ghost use Rattle.syn_message.specs.UserReplies.{Edited, Got, told_of};
-ghost use Rattle.syn_message.specs.Users.{Edits, Gets, IsLawfulWished, Wish, wish_of, wished_of};
+ghost use Rattle.syn_message.specs.UserReplies.{Edited, Got, user_reply_of};
+ghost use Rattle.syn_message.specs.Users.{Edits, Gets, IsLawfulUserRequestMessage, UserRequest};
+ghost use Rattle.syn_message.specs.Users.{user_request_of, user_request_message_of};
 ghost use Rattle.syn_tree.specs.Contents.{content_of};
 ghost use Rattle.syn_tree.specs.Edits.{edit_of};
 ghost use Rattle.syn_user.specs.Exchanges.{Fails, IsHeard, IsTold, IsUnheard, goes_on_after};
 ghost use Rattle.syn_user.specs.Exchanges.{number_after};
-ghost use Rattle.syn_user.specs.Lines.{held_by, is_open, line_of, next_of, reader_of, writer_of};
+ghost use Rattle.syn_user.specs.States.{held_by, is_open, state_of, next_of, reader_of, writer_of};
 ghost use Rattle.syn_user.specs.inner.Parts.{Breaks, IsAnswered, IsSilent};
 
 use crate::error::UserError;
@@ -66,12 +67,12 @@ impl<R: Read, W: Write> UserConnection<R, W> {
     /// and the edit may have been made.
     pub fn edit(&mut self, alloc: Global, user: u32, edit: Edit) -> Result<u64, UserError>
         ensures ok { IfOk result (λ position.
-            IsTold (line_of R.remaining W.contents self.old)
-            (line_of R.remaining W.contents self.new) (Edits user (edit_of edit))
+            IsTold (state_of R.remaining W.contents self.old)
+            (state_of R.remaining W.contents self.new) (Edits user (edit_of edit))
             (Edited position)) }
         ensures err { IfErr result (λ error.
-            Fails (line_of R.remaining W.contents self.old)
-            (line_of R.remaining W.contents self.new) (Edits user (edit_of edit)) error) }
+            Fails (state_of R.remaining W.contents self.old)
+            (state_of R.remaining W.contents self.new) (Edits user (edit_of edit)) error) }
         ensures goes { is_open self.new ≡ goes_on_after result }
         ensures closed { is_open self.old ≡ false → result ≡ Err UserError.Device }
     {
@@ -87,12 +88,12 @@ impl<R: Read, W: Write> UserConnection<R, W> {
     /// Refused as `edit` is, but for the length.
     pub fn get(&mut self, alloc: Global, path: &Path) -> Result<Option<Content>, UserError>
         ensures ok { IfOk result (λ found.
-            IsTold (line_of R.remaining W.contents self.old)
-            (line_of R.remaining W.contents self.new) (Gets path.now)
+            IsTold (state_of R.remaining W.contents self.old)
+            (state_of R.remaining W.contents self.new) (Gets path.now)
             (Got (option_map content_of found))) }
         ensures err { IfErr result (λ error.
-            Fails (line_of R.remaining W.contents self.old)
-            (line_of R.remaining W.contents self.new) (Gets path.now) error) }
+            Fails (state_of R.remaining W.contents self.old)
+            (state_of R.remaining W.contents self.new) (Gets path.now) error) }
         ensures goes { is_open self.new ≡ goes_on_after result }
         ensures closed { is_open self.old ≡ false → result ≡ Err UserError.Device }
     {
@@ -108,8 +109,8 @@ impl<R: Read, W: Write> UserConnection<R, W> {
 
     /// Closes the connection for lack of memory; of a closed one the refusal is 9.
     fn give_up(&mut self) -> UserError
-        ensures { (wish : Wish) → Fails (line_of R.remaining W.contents self.old)
-            (line_of R.remaining W.contents self.new) wish result }
+        ensures { (wish : UserRequest) → Fails (state_of R.remaining W.contents self.old)
+            (state_of R.remaining W.contents self.new) wish result }
     {
         if !self.open {
             return UserError::Device;
@@ -121,11 +122,12 @@ impl<R: Read, W: Write> UserConnection<R, W> {
     /// Asks, and answers what the replica replies. Refused as `edit`, but not by the replica.
     fn ask(&mut self, alloc: Global, request: UserRequest) -> Result<UserReply, UserError>
         ensures told { IfOk result (λ reply.
-            IsTold (line_of R.remaining W.contents self.old)
-            (line_of R.remaining W.contents self.new) (wish_of request) (told_of reply)) }
+            IsTold (state_of R.remaining W.contents self.old)
+            (state_of R.remaining W.contents self.new) (user_request_of request)
+            (user_reply_of reply)) }
         ensures fails { IfErr result (λ error.
-            Fails (line_of R.remaining W.contents self.old)
-            (line_of R.remaining W.contents self.new) (wish_of request) error) }
+            Fails (state_of R.remaining W.contents self.old)
+            (state_of R.remaining W.contents self.new) (user_request_of request) error) }
     {
         if !self.open {
             return Err(UserError::Device);
@@ -152,11 +154,12 @@ impl<R: Read, W: Write> UserConnection<R, W> {
     ) -> Result<UserReply, UserError>
         requires { asked.now.number ≡ next_of self.old }
         ensures told { IfOk result (λ reply.
-            IsAnswered (line_of R.remaining W.contents self.old)
-            (line_of R.remaining W.contents self.new) (wished_of asked.now) (told_of reply)) }
+            IsAnswered (state_of R.remaining W.contents self.old)
+            (state_of R.remaining W.contents self.new) (user_request_message_of asked.now)
+            (user_reply_of reply)) }
         ensures breaks { IfErr result (λ error.
-            Breaks (line_of R.remaining W.contents self.old)
-            (line_of R.remaining W.contents self.new) (wished_of asked.now) error) }
+            Breaks (state_of R.remaining W.contents self.old)
+            (state_of R.remaining W.contents self.new) (user_request_message_of asked.now) error) }
         ensures open { is_open self.new ≡ is_open self.old }
     {
         let body = body_of(alloc, asked)?;
@@ -170,15 +173,16 @@ impl<R: Read, W: Write> UserConnection<R, W> {
 
     /// The reply to the request, in the next frame.
     fn hear(&mut self, alloc: Global, asked: &UserRequestMessage) -> Result<UserReply, UserError>
-        requires { IsLawfulWished (wished_of asked.now) }
+        requires { IsLawfulUserRequestMessage (user_request_message_of asked.now) }
         ensures heard { IfOk result (λ reply.
-            IsHeard (line_of R.remaining W.contents self.old)
-            (line_of R.remaining W.contents self.new) (wished_of asked.now) (told_of reply)) }
+            IsHeard (state_of R.remaining W.contents self.old)
+            (state_of R.remaining W.contents self.new) (user_request_message_of asked.now)
+            (user_reply_of reply)) }
         ensures unheard { IfErr result (λ error.
-            IsUnheard (line_of R.remaining W.contents self.old)
-            (line_of R.remaining W.contents self.new) (wished_of asked.now) error) }
-        ensures silent { IsSilent (line_of R.remaining W.contents self.old)
-            (line_of R.remaining W.contents self.new) }
+            IsUnheard (state_of R.remaining W.contents self.old)
+            (state_of R.remaining W.contents self.new) (user_request_message_of asked.now) error) }
+        ensures silent { IsSilent (state_of R.remaining W.contents self.old)
+            (state_of R.remaining W.contents self.new) }
     {
         message_laws();
         let Some(body) = self.connection.receive(alloc)? else {

@@ -2,8 +2,9 @@
 ghost use Rattle.std.specs.Prelude.{◌≡◌, ◌<◌, ◌≤◌, IfErr, IfOk, false, length, true};
 ghost use Rattle.syn_link.specs.Frames.{IsBody};
 ghost use Rattle.syn_link.specs.declared.frames.TheConstants.{LONGEST_BODY};
-ghost use Rattle.syn_message.specs.Users.{IsLawfulWish, IsLawfulWished, wish_fields, wish_of};
-ghost use Rattle.syn_message.specs.Users.{wished_of, wished_spelling};
+ghost use Rattle.syn_message.specs.Users.{IsLawfulUserRequest, IsLawfulUserRequestMessage};
+ghost use Rattle.syn_message.specs.Users.{user_request_fields, user_request_of};
+ghost use Rattle.syn_message.specs.Users.{user_request_message_of, user_request_spelling};
 ghost use Rattle.syn_model.specs.Event.{AreBytes, Edited};
 ghost use Rattle.syn_model.specs.Spelling.{event_spelling};
 ghost use Rattle.syn_tree.specs.Edits.{edit_of};
@@ -22,10 +23,12 @@ use syn_tree::{Edit, is_mode};
 /// The body of the request. Refused 7 where a frame takes no body of its length, and 11 where
 /// memory is refused.
 pub(crate) fn body_of(alloc: Global, asked: &UserRequestMessage) -> Result<Vec<u8>, UserError>
-    ensures lawful { IfOk result (λ body. IsLawfulWished (wished_of asked.now)) }
-    ensures body { IfOk result (λ body. body.items ≡ wished_spelling (wished_of asked.now)) }
+    ensures lawful { IfOk result (λ body. IsLawfulUserRequestMessage
+        (user_request_message_of asked.now)) }
+    ensures body { IfOk result (λ body. body.items
+        ≡ user_request_spelling (user_request_message_of asked.now)) }
     ensures framed { IfOk result (λ body. IsBody body.items) }
-    ensures refused { IfErr result (λ error. HasNoBody (wished_of asked.now) error) }
+    ensures refused { IfErr result (λ error. HasNoBody (user_request_message_of asked.now) error) }
 {
     if !has_body(asked) {
         return Err(UserError::Refused(Refusal::Full));
@@ -39,8 +42,9 @@ pub(crate) fn body_of(alloc: Global, asked: &UserRequestMessage) -> Result<Vec<u
 
 /// Whether the request can be spelled: it puts no more bytes than a frame takes.
 fn has_body(asked: &UserRequestMessage) -> bool
-    ensures lawful { result ≡ true → IsLawfulWished (wished_of asked.now) }
-    ensures long { result ≡ false → IsTooLong (wished_of asked.now) }
+    ensures lawful { result ≡ true
+        → IsLawfulUserRequestMessage (user_request_message_of asked.now) }
+    ensures long { result ≡ false → IsTooLong (user_request_message_of asked.now) }
 {
     let _number = asked.number;
     is_lawful(&asked.request)
@@ -48,8 +52,9 @@ fn has_body(asked: &UserRequestMessage) -> bool
 
 /// The same of what is asked for.
 fn is_lawful(request: &UserRequest) -> bool
-    ensures lawful { result ≡ true → IsLawfulWish (wish_of request.now) }
-    ensures long { result ≡ false → LONGEST_BODY < length (wish_fields (wish_of request.now)) }
+    ensures lawful { result ≡ true → IsLawfulUserRequest (user_request_of request.now) }
+    ensures long { result ≡ false → LONGEST_BODY < length
+        (user_request_fields (user_request_of request.now)) }
 {
     match request {
         UserRequest::Edit { user, edit } => is_lawful_edit(*user, edit),

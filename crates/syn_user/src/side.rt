@@ -2,14 +2,14 @@
 ghost use Rattle.std.specs.Prelude.{◌≡◌, ◌<◌, ◌^◌, [], IfErr, IfNone, IfOk, IfSome, false};
 ghost use Rattle.syn_headline.specs.Side.{IsLawfulBody, ListAt, Piece, Refused};
 ghost use Rattle.syn_message.specs.Replies.{reply_of};
-ghost use Rattle.syn_message.specs.Requests.{IsLawfulAsking, asking_spelling, request_of};
+ghost use Rattle.syn_message.specs.Requests.{IsLawfulRequestMessage, request_spelling, request_of};
 ghost use Rattle.syn_model.specs.Path.{IsPath};
 ghost use Rattle.syn_model.specs.Refusal as why;
 ghost use Rattle.syn_user.specs.Sides.{ArePiecesOf, IsHeard, IsListing, IsRefusedFor, IsReplied};
 ghost use Rattle.syn_user.specs.Sides.{IsTouchedSince, IsUnanswered, IsUnheard, IsUnlisted};
 ghost use Rattle.syn_user.specs.Sides.{NoPiece, NoPieces, NoPosition, NoTree, ShowsTree};
-ghost use Rattle.syn_user.specs.Sides.{TellsPosition, asking_with, first_line};
-ghost use Rattle.syn_user.specs.Sides.{root_from, side_line};
+ghost use Rattle.syn_user.specs.Sides.{TellsPosition, message_with, first_line};
+ghost use Rattle.syn_user.specs.Sides.{root_from, side_state};
 ghost use Rattle.syn_user.specs.inner.Parts.{is_refusal, side_writer};
 
 use crate::connection::number_after;
@@ -44,7 +44,7 @@ pub struct SideConnection<R, W> {
 impl<R: Read, W: Write> SideConnection<R, W> {
     /// A connection on which nothing was asked yet. It takes no memory.
     pub fn new(alloc: Global, reader: R, writer: W) -> SideConnection<R, W>
-        ensures { side_line R.remaining W.contents result
+        ensures { side_state R.remaining W.contents result
             ≡ first_line (R.remaining reader) (W.contents writer) }
     {
         SideConnection {
@@ -61,15 +61,15 @@ impl<R: Read, W: Write> SideConnection<R, W> {
     /// and 23 where what comes is no reply to it. After all but the first it is not to be used.
     pub fn list(&mut self, alloc: Global, path: &Path) -> Result<Reply, UserError>
         ensures replied { IfOk result (λ reply.
-            IsReplied (side_line R.remaining W.contents self.old)
-            (side_line R.remaining W.contents self.new) (ListAt path.now) (reply_of reply)) }
+            IsReplied (side_state R.remaining W.contents self.old)
+            (side_state R.remaining W.contents self.new) (ListAt path.now) (reply_of reply)) }
         ensures listing { IfOk result (λ reply. IsListing (reply_of reply)) }
         ensures refused { IfErr result
-            (IsRefusedFor (side_line R.remaining W.contents self.old)
-            (side_line R.remaining W.contents self.new) (ListAt path.now)) }
+            (IsRefusedFor (side_state R.remaining W.contents self.old)
+            (side_state R.remaining W.contents self.new) (ListAt path.now)) }
         ensures unlisted { IfErr result
-            (IsUnlisted (side_line R.remaining W.contents self.old)
-            (side_line R.remaining W.contents self.new) path.now) }
+            (IsUnlisted (side_state R.remaining W.contents self.old)
+            (side_state R.remaining W.contents self.new) path.now) }
     {
         let path = path.copy(alloc)?;
         let reply = self.ask(alloc, Request::List { path })?;
@@ -87,11 +87,11 @@ impl<R: Read, W: Write> SideConnection<R, W> {
     /// edited each of a hundred times.
     pub fn tree(&mut self, alloc: Global) -> Result<(u64, Tree), UserError>
         ensures shown { IfOk result (λ found. ShowsTree found.0 found.1
-            (side_line R.remaining W.contents self.new)
-            (side_line R.remaining W.contents self.old)) }
+            (side_state R.remaining W.contents self.new)
+            (side_state R.remaining W.contents self.old)) }
         ensures refused { IfErr result (λ error.
-            NoTree (side_line R.remaining W.contents self.new) error 0
-            (side_line R.remaining W.contents self.old)) }
+            NoTree (side_state R.remaining W.contents self.new) error 0
+            (side_state R.remaining W.contents self.old)) }
     {
         for _tried in 0..MOST_TRIES {
             let position = self.position(alloc)?;
@@ -105,11 +105,11 @@ impl<R: Read, W: Write> SideConnection<R, W> {
     /// The position of the replica. It is refused as `list` is.
     pub fn position(&mut self, alloc: Global) -> Result<u64, UserError>
         ensures told { IfOk result (λ position. TellsPosition position
-            (side_line R.remaining W.contents self.old)
-            (side_line R.remaining W.contents self.new)) }
+            (side_state R.remaining W.contents self.old)
+            (side_state R.remaining W.contents self.new)) }
         ensures refused { IfErr result
-            (NoPosition (side_line R.remaining W.contents self.old)
-            (side_line R.remaining W.contents self.new)) }
+            (NoPosition (side_state R.remaining W.contents self.old)
+            (side_state R.remaining W.contents self.new)) }
     {
         match self.list(alloc, &Path::root(alloc))? {
             Reply::Listed { position, .. } => Ok(position),
@@ -122,14 +122,14 @@ impl<R: Read, W: Write> SideConnection<R, W> {
     /// Refused as `list` is, and 23 where the pieces that come spell no tree.
     fn tree_at(&mut self, alloc: Global, position: u64) -> Result<Option<Tree>, UserError>
         ensures tree { IfOk result (λ found. IfSome found (ArePiecesOf position
-            (side_line R.remaining W.contents self.old)
-            (side_line R.remaining W.contents self.new))) }
+            (side_state R.remaining W.contents self.old)
+            (side_state R.remaining W.contents self.new))) }
         ensures none { IfOk result (λ found. IfNone found (IsTouchedSince position
-            (side_line R.remaining W.contents self.old)
-            (side_line R.remaining W.contents self.new))) }
+            (side_state R.remaining W.contents self.old)
+            (side_state R.remaining W.contents self.new))) }
         ensures refused { IfErr result (NoPieces position
-            (side_line R.remaining W.contents self.old)
-            (side_line R.remaining W.contents self.new)) }
+            (side_state R.remaining W.contents self.old)
+            (side_state R.remaining W.contents self.new)) }
     {
         let mut gathered = Gathered::new(alloc);
         for _count in 0..MOST_PIECES {
@@ -153,16 +153,16 @@ impl<R: Read, W: Write> SideConnection<R, W> {
         offset: u32,
     ) -> Result<Option<(u32, Vec<u8>)>, UserError>
         ensures piece { IfOk result (λ found. IfSome found (λ piece.
-            IsReplied (side_line R.remaining W.contents self.old)
-            (side_line R.remaining W.contents self.new) (root_from position offset)
+            IsReplied (side_state R.remaining W.contents self.old)
+            (side_state R.remaining W.contents self.new) (root_from position offset)
             (Piece piece.0 piece.1.items))) }
         ensures none { IfOk result (λ found. IfNone found
-            (IsReplied (side_line R.remaining W.contents self.old)
-            (side_line R.remaining W.contents self.new) (root_from position offset)
+            (IsReplied (side_state R.remaining W.contents self.old)
+            (side_state R.remaining W.contents self.new) (root_from position offset)
             (Refused why.Touched))) }
         ensures refused { IfErr result
-            (NoPiece position offset (side_line R.remaining W.contents self.old)
-            (side_line R.remaining W.contents self.new)) }
+            (NoPiece position offset (side_state R.remaining W.contents self.old)
+            (side_state R.remaining W.contents self.new)) }
     {
         is_long(position);
         is_short(offset);
@@ -183,11 +183,11 @@ impl<R: Read, W: Write> SideConnection<R, W> {
     fn ask(&mut self, alloc: Global, request: Request) -> Result<Reply, UserError>
         requires { IsLawfulBody (request_of request) }
         ensures replied { IfOk result (λ reply.
-            IsReplied (side_line R.remaining W.contents self.old)
-            (side_line R.remaining W.contents self.new) (request_of request) (reply_of reply)) }
+            IsReplied (side_state R.remaining W.contents self.old)
+            (side_state R.remaining W.contents self.new) (request_of request) (reply_of reply)) }
         ensures unanswered { IfErr result
-            (IsUnanswered (side_line R.remaining W.contents self.old)
-            (side_line R.remaining W.contents self.new) (request_of request)) }
+            (IsUnanswered (side_state R.remaining W.contents self.old)
+            (side_state R.remaining W.contents self.new) (request_of request)) }
         ensures refused { IfErr result (λ error. is_refusal error ≡ false) }
     {
         let body = body_of(alloc, self.next, request)?;
@@ -201,11 +201,11 @@ impl<R: Read, W: Write> SideConnection<R, W> {
     /// The reply to the request that was sent, in the next frame. The next number follows.
     fn hear(&mut self, alloc: Global) -> Result<Reply, UserError>
         ensures heard { IfOk result (λ reply.
-            IsHeard (side_line R.remaining W.contents self.old)
-            (side_line R.remaining W.contents self.new) (reply_of reply)) }
+            IsHeard (side_state R.remaining W.contents self.old)
+            (side_state R.remaining W.contents self.new) (reply_of reply)) }
         ensures silent { side_writer self.new ≡ side_writer self.old }
-        ensures unheard { IfErr result (IsUnheard (side_line R.remaining W.contents self.old)
-            (side_line R.remaining W.contents self.new)) }
+        ensures unheard { IfErr result (IsUnheard (side_state R.remaining W.contents self.old)
+            (side_state R.remaining W.contents self.new)) }
         ensures refused { IfErr result (λ error. is_refusal error ≡ false) }
     {
         message_laws();
@@ -228,9 +228,9 @@ impl<R: Read, W: Write> SideConnection<R, W> {
 fn body_of(alloc: Global, number: u32, request: Request) -> Result<Vec<u8>, UserError>
     requires { IsLawfulBody (request_of request) }
     ensures lawful { IfOk result
-        (λ body. IsLawfulAsking (asking_with number (request_of request))) }
+        (λ body. IsLawfulRequestMessage (message_with number (request_of request))) }
     ensures body { IfOk result (λ body.
-        body.items ≡ asking_spelling (asking_with number (request_of request))) }
+        body.items ≡ request_spelling (message_with number (request_of request))) }
     ensures memory { IfErr result (λ error. error ≡ UserError.Memory) }
     ensures refused { IfErr result (λ error. is_refusal error ≡ false) }
 {

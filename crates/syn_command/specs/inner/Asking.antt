@@ -4,10 +4,10 @@ use Rattle.syn_headline.specs.Network.{Which}
 use Rattle.syn_command.specs.Listings.{GaveReplies, Replies, exchanges_of}
 use Rattle.syn_session.specs.Scanning.{IsFoundIn, found_of, out_of}
 use Rattle.syn_session.specs.declared.side_scan.SideScan.{SideScan}
-use Rattle.syn_user.specs.Sides.{SideLine}
+use Rattle.syn_user.specs.Sides.{SideState}
 
 -- each reply was taken, and none is waited for
-pub record IsAsked (old : SideLine) (scan : SideScan) (now : SideLine) : Type 0 where
+pub record IsAsked (old : SideState) (scan : SideScan) (now : SideState) : Type 0 where
   pub replies : Replies
   pub gave : GaveReplies old replies now
   pub found : (side : Which) → IsFoundIn (found_of scan) side (exchanges_of side replies)

@@ -3,7 +3,7 @@ use Rattle.std.specs.Prelude.{◌≡◌, [], None, Option, Some, Result}
 use Rattle.syn_agent.specs.Agents.{staging_of}
 use Rattle.syn_disk.specs.declared.disk.Disk.{Ghosts}
 use Rattle.syn_link.specs.Frames.{Bytes}
-use Rattle.syn_serve.specs.Lines.{Line}
+use Rattle.syn_serve.specs.States.{ConnectionState}
 use Rattle.syn_serve.specs.Servings.{WasServed}
 use Rattle.syn_serve.specs.declared.error.ServeError.{ServeError}
 
@@ -11,8 +11,8 @@ use Rattle.syn_serve.specs.declared.error.ServeError.{ServeError}
 -- reader is to give nothing had come, and nothing was staged
 pub record WasServedWhole (D : Type 0) (disk : Ghosts D) (given written : Option Bytes)
     (answer : Result Unit ServeError) : Type 0 where
-  pub first : Line
-  pub last : Line
+  pub first : ConnectionState
+  pub last : ConnectionState
   pub given_first : first.given ≡ given
   pub held_first : first.held ≡ []
   pub staged_first : staging_of first.agent ≡ None

@@ -2,40 +2,40 @@
 ghost use Rattle.std.specs.Prelude.{◌≡◌, ◌≤◌, ◌<◌, ◌+◌, length, take, drop, vec_capacity, IfOk};
 ghost use Rattle.std.specs.List.{All};
 ghost use Rattle.syn_disk.specs.Disk.{overwritten};
-ghost use Rattle.syn_disk.specs.declared.disk.TheConstants.{DISK_SIZE, HALF_SIZE};
+ghost use Rattle.syn_disk.specs.declared.disk.TheConstants.{DISK_SIZE, PART_SIZE};
 
-use crate::HALF_SIZE;
+use crate::PART_SIZE;
 use crate::bytes::{copy_out, extend, overwrite};
 use std::alloc::{AllocError, Global};
 use std::io;
 use std::os::unix::fs::FileExt;
 
-/// Half a disk, up to the last byte that was used. All after it are zero.
+/// A part of a disk, up to the last byte that was used. All after it are zero.
 ///
-/// Room for the whole half is taken at once, and the system gives it as it is used.
+/// Room for the whole part is taken at once, and the system gives it as it is used.
 #[derive(Drop)]
-pub struct HalfBytes {
+pub struct PartBytes {
     used: Vec<u8>,
-    ghost fits: { length used.items ≤ HALF_SIZE },
-    ghost room: { HALF_SIZE ≤ vec_capacity used },
+    ghost fits: { length used.items ≤ PART_SIZE },
+    ghost room: { PART_SIZE ≤ vec_capacity used },
 }
 
-impl HalfBytes {
-    ghost use Rattle.syn_disk.specs.Mirror.{half_of};
+impl PartBytes {
+    ghost use Rattle.syn_disk.specs.Mirror.{part_of};
 
-    fn new(alloc: Global) -> Result<HalfBytes, AllocError>
-        ensures { IfOk result (λ part. All (λ byte. byte ≡ 0) (half_of part)) }
+    fn new(alloc: Global) -> Result<PartBytes, AllocError>
+        ensures { IfOk result (λ part. All (λ byte. byte ≡ 0) (part_of part)) }
     {
-        Ok(HalfBytes {
-            used: Vec::with_capacity(alloc, HALF_SIZE)?,
+        Ok(PartBytes {
+            used: Vec::with_capacity(alloc, PART_SIZE)?,
         })
     }
 
     // Keeps the first bytes up to `to`.
     fn reach(&mut self, to: usize)
-        requires { to ≤ HALF_SIZE }
+        requires { to ≤ PART_SIZE }
         ensures kept { to ≤ length self.new.used.items }
-        ensures same { half_of self.new ≡ half_of self.old }
+        ensures same { part_of self.new ≡ part_of self.old }
     {
         if self.used.len() < to {
             extend(&mut self.used, to);
@@ -43,9 +43,9 @@ impl HalfBytes {
     }
 
     fn read(&mut self, at: usize, into: &mut [u8])
-        requires { at + length into.old ≤ HALF_SIZE }
-        ensures into { into.new ≡ take (length into.old) (drop at (half_of self.old)) }
-        ensures same { half_of self.new ≡ half_of self.old }
+        requires { at + length into.old ≤ PART_SIZE }
+        ensures into { into.new ≡ take (length into.old) (drop at (part_of self.old)) }
+        ensures same { part_of self.new ≡ part_of self.old }
     {
         if !into.is_empty() {
             self.reach(at + into.len());
@@ -56,16 +56,16 @@ impl HalfBytes {
     // Reads the bytes from `from` up to `to` from the file, which has the part at `start`.
     fn load<F: FileExt>(&mut self, file: &F, start: usize, from: usize, to: usize) -> io::Result<()>
         requires ordered { from ≤ to }
-        requires within { to ≤ HALF_SIZE }
-        requires start { start ≤ HALF_SIZE }
+        requires within { to ≤ PART_SIZE }
+        requires start { start ≤ PART_SIZE }
     {
         self.reach(to);
         file.read_exact_at(&mut self.used[from..to], (start + from) as u64)
     }
 
     fn write(&mut self, at: usize, bytes: &[u8])
-        requires { at + length bytes.now ≤ HALF_SIZE }
-        ensures { half_of self.new ≡ overwritten (half_of self.old) at bytes.now }
+        requires { at + length bytes.now ≤ PART_SIZE }
+        ensures { part_of self.new ≡ overwritten (part_of self.old) at bytes.now }
     {
         if !bytes.is_empty() {
             self.reach(at + bytes.len());
@@ -77,8 +77,8 @@ impl HalfBytes {
 /// The bytes of a disk.
 #[derive(Drop)]
 pub struct DiskBytes {
-    low: HalfBytes,
-    high: HalfBytes,
+    low: PartBytes,
+    high: PartBytes,
 }
 
 impl DiskBytes {
@@ -88,8 +88,8 @@ impl DiskBytes {
     pub fn new(alloc: Global) -> Result<DiskBytes, AllocError>
         ensures { IfOk result (λ image. All (λ byte. byte ≡ 0) (bytes_of image)) }
     {
-        let low = HalfBytes::new(alloc)?;
-        let high = HalfBytes::new(alloc)?;
+        let low = PartBytes::new(alloc)?;
+        let high = PartBytes::new(alloc)?;
         Ok(DiskBytes { low, high })
     }
 
@@ -99,10 +99,10 @@ impl DiskBytes {
         ensures into { into.new ≡ take (length into.old) (drop at (bytes_of self.old)) }
         ensures same { bytes_of self.new ≡ bytes_of self.old }
     {
-        let low = HALF_SIZE.saturating_sub(at).min(into.len());
+        let low = PART_SIZE.saturating_sub(at).min(into.len());
         let (front, back) = into.split_at_mut(low);
-        self.low.read(at.min(HALF_SIZE), front);
-        self.high.read(at.saturating_sub(HALF_SIZE), back);
+        self.low.read(at.min(PART_SIZE), front);
+        self.high.read(at.saturating_sub(PART_SIZE), back);
     }
 
     /// Reads the bytes from `from` up to `to` from the file. Where a read fails, any of them may be
@@ -111,14 +111,14 @@ impl DiskBytes {
         requires ordered { from ≤ to }
         requires within { to ≤ DISK_SIZE }
     {
-        if from < HALF_SIZE {
-            self.low.load(file, 0, from, to.min(HALF_SIZE))?;
+        if from < PART_SIZE {
+            self.low.load(file, 0, from, to.min(PART_SIZE))?;
         }
-        if to <= HALF_SIZE {
+        if to <= PART_SIZE {
             return Ok(());
         }
-        let from = from.saturating_sub(HALF_SIZE);
-        self.high.load(file, HALF_SIZE, from, to - HALF_SIZE)
+        let from = from.saturating_sub(PART_SIZE);
+        self.high.load(file, PART_SIZE, from, to - PART_SIZE)
     }
 
     /// Writes the bytes from `at` on.
@@ -126,9 +126,9 @@ impl DiskBytes {
         requires { at + length bytes.now ≤ DISK_SIZE }
         ensures { bytes_of self.new ≡ overwritten (bytes_of self.old) at bytes.now }
     {
-        let low = HALF_SIZE.saturating_sub(at).min(bytes.len());
+        let low = PART_SIZE.saturating_sub(at).min(bytes.len());
         let (front, back) = bytes.split_at(low);
-        self.low.write(at.min(HALF_SIZE), front);
-        self.high.write(at.saturating_sub(HALF_SIZE), back);
+        self.low.write(at.min(PART_SIZE), front);
+        self.high.write(at.saturating_sub(PART_SIZE), back);
     }
 }

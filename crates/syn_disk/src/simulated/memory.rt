@@ -3,15 +3,15 @@ ghost use Rattle.std.specs.Prelude.{◌≡◌, ◌<◌, ◌≤◌, ◌+◌, ◌+
 ghost use Rattle.std.specs.Prelude.{refl, take, drop, slice_index, slice_index_or, IfOk, IsOk};
 ghost use Rattle.syn_disk.specs.Arms.{no_arms};
 ghost use Rattle.syn_disk.specs.Disk.{overwritten, Torn, Follows, NothingNew, Only};
-ghost use Rattle.syn_disk.specs.Halves.{HalvesMayLeave, length-halves};
+ghost use Rattle.syn_disk.specs.Parts.{PartsMayLeave, length-parts};
 ghost use Rattle.syn_disk.specs.Moments.{LeftSince};
 ghost use Rattle.syn_disk.specs.MomentLaws.{now_counts, only_now};
 ghost use Rattle.syn_disk.specs.Stop.{Left};
 
-use super::half::SimulatedHalf;
 use super::leaves::Leaves;
+use super::part::SimulatedPart;
 use super::restart::Restart;
-use crate::disk::HALF_SIZE;
+use crate::disk::PART_SIZE;
 use crate::history::History;
 use crate::{DeviceFailed, Disk};
 use std::alloc::{AllocError, Global};
@@ -19,11 +19,11 @@ use std::alloc::{AllocError, Global};
 /// A disk whose calls do not fail. It takes all its memory when it is made.
 #[derive(Drop)]
 pub struct MemDisk {
-    low: SimulatedHalf,
-    high: SimulatedHalf,
+    low: SimulatedPart,
+    high: SimulatedPart,
     leaves: Vec<Leaves>,
     restarts: usize,
-    history: History<SimulatedHalf, SimulatedHalf>,
+    history: History<SimulatedPart, SimulatedPart>,
 }
 
 impl MemDisk {
@@ -36,8 +36,8 @@ impl MemDisk {
         ensures synced { IfOk result (λ disk. IsSynced disk) }
         ensures leaves { IfOk result (λ disk. leaves_of disk ≡ leaves.items) }
     {
-        let low = SimulatedHalf::new(alloc)?;
-        let high = SimulatedHalf::new(alloc)?;
+        let low = SimulatedPart::new(alloc)?;
+        let high = SimulatedPart::new(alloc)?;
         Ok(MemDisk {
             low,
             high,
@@ -88,19 +88,19 @@ impl Disk for MemDisk {
 
     ghost moment = { λ m. length m.history };
 
-    ghost left_since = { λ m. LeftSince HalvesMayLeave m.history (m.low, m.high) };
+    ghost left_since = { λ m. LeftSince PartsMayLeave m.history (m.low, m.high) };
 
     ghost failures = { λ _. 0 };
 
     ghost arms = { λ _. no_arms };
 
     ghost counts_now = { λ m t c le left.
-        now_counts HalvesMayLeave m.history (m.low, m.high) c t le left };
+        now_counts PartsMayLeave m.history (m.low, m.high) c t le left };
 
-    ghost only_now = { λ m c left. only_now HalvesMayLeave m.history (m.low, m.high) c left };
+    ghost only_now = { λ m c left. only_now PartsMayLeave m.history (m.low, m.high) c left };
 
     ghost seen_may_stay = { λ m.
-        record { whole = length-halves m.low m.high; kept = λ i none. refl } };
+        record { whole = length-parts m.low m.high; kept = λ i none. refl } };
 
     ghost whole = { λ m t c left. left.2.whole };
 
@@ -116,10 +116,10 @@ impl Disk for MemDisk {
         ensures time { GoesOn self.old self.new }
     {
         self.history.note(&self.low, &self.high);
-        let low = HALF_SIZE.saturating_sub(at).min(into.len());
+        let low = PART_SIZE.saturating_sub(at).min(into.len());
         let (front, back) = into.split_at_mut(low);
-        self.low.read(at.min(HALF_SIZE), front);
-        self.high.read(at.saturating_sub(HALF_SIZE), back);
+        self.low.read(at.min(PART_SIZE), front);
+        self.high.read(at.saturating_sub(PART_SIZE), back);
         Ok(())
     }
 
@@ -135,10 +135,10 @@ impl Disk for MemDisk {
         ensures time { GoesOn self.old self.new }
     {
         self.history.note(&self.low, &self.high);
-        let low = HALF_SIZE.saturating_sub(at).min(bytes.len());
+        let low = PART_SIZE.saturating_sub(at).min(bytes.len());
         let (front, back) = bytes.split_at(low);
-        self.low.write(at.min(HALF_SIZE), front);
-        self.high.write(at.saturating_sub(HALF_SIZE), back);
+        self.low.write(at.min(PART_SIZE), front);
+        self.high.write(at.saturating_sub(PART_SIZE), back);
         Ok(())
     }
 

@@ -3,9 +3,9 @@ ghost use Rattle.std.specs.Prelude.{◌≡◌, ◌<◌, ◌≤◌, ◌+◌, ◌-
 ghost use Rattle.std.specs.Prelude.{true, false, List, length, replicate, IfOk};
 ghost use Rattle.syn_disk.specs.Disk.{overwritten};
 ghost use Rattle.syn_disk.specs.Written.{is_written, IsHull};
-ghost use Rattle.syn_disk.specs.declared.disk.TheConstants.{HALF_SIZE};
+ghost use Rattle.syn_disk.specs.declared.disk.TheConstants.{PART_SIZE};
 
-use crate::disk::HALF_SIZE;
+use crate::disk::PART_SIZE;
 use std::alloc::{AllocError, Global};
 use std::marker::Model;
 
@@ -24,7 +24,7 @@ impl Model for Written {
     ghost view = { λ written. written.flags.items };
 
     ghost invariant = { λ written. IsHull written.flags.items written.from written.to
-        × (HALF_SIZE ≤ vec_capacity written.flags) };
+        × (PART_SIZE ≤ vec_capacity written.flags) };
 }
 
 impl Written {
@@ -32,7 +32,7 @@ impl Written {
     pub fn new(alloc: Global) -> Result<Written, AllocError>
         ensures { IfOk result (λ written. written ≡ []) }
     {
-        let flags = Vec::with_capacity(alloc, HALF_SIZE)?;
+        let flags = Vec::with_capacity(alloc, PART_SIZE)?;
         Ok(Written {
             flags,
             from: 0,
@@ -43,7 +43,7 @@ impl Written {
     /// Keeps flags up to `to`, in the room that is there.
     pub fn extend(&mut self, to: usize)
         requires longer { length self.old ≤ to }
-        requires room { to ≤ HALF_SIZE }
+        requires room { to ≤ PART_SIZE }
         ensures { self.new ≡ self.old ++ replicate (to - length self.old) false }
     {
         self.flags.resize(to, false).unwrap();

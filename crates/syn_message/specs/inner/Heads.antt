@@ -4,8 +4,9 @@ use Rattle.std.specs.Int.{to_be_bytes, w32, w64}
 use Rattle.syn_model.specs.Path.{Bytes}
 use Rattle.syn_model.specs.Refusal.{Refusal, number}
 use Rattle.syn_message.specs.Bodies.{ReadsWhole}
-use Rattle.syn_message.specs.Users.{Wish, IsLawfulWish, wish_fields, wish_kind, wish_of}
-use Rattle.syn_message.specs.declared.user.UserRequest.{UserRequest}
+use Rattle.syn_message.specs.Users.{UserRequest, IsLawfulUserRequest, user_request_fields}
+use Rattle.syn_message.specs.Users.{user_request_kind, user_request_of}
+use Rattle.syn_message.specs.declared.user.UserRequest.{UserRequest as Coded}
 use Rattle.syn_wire.specs.declared.error.ReadError.{ReadError}
 
 -- a session, from 1, and a number in it
@@ -30,11 +31,11 @@ pub record IsUserHead (head : ℕ × ℕ) : Type 0 where
   pub number : head.1 < 2 ^ 32
 
 -- what stands after the number of a user's request
-abbrev pub IsWishOf : ℕ → Wish → Type 0
-IsWishOf kind wish = (wish_kind wish ≡ kind) × IsLawfulWish wish
+abbrev pub IsUserRequestOf : ℕ → UserRequest → Type 0
+IsUserRequestOf kind request = (user_request_kind request ≡ kind) × IsLawfulUserRequest request
 
-abbrev pub ReadsWish : ℕ → Bytes → Result UserRequest ReadError → Type 0
-ReadsWish kind = ReadsWhole (IsWishOf kind) wish_fields wish_of
+abbrev pub ReadsUserRequest : ℕ → Bytes → Result Coded ReadError → Type 0
+ReadsUserRequest kind = ReadsWhole (IsUserRequestOf kind) user_request_fields user_request_of
 
 -- a refusal, by its number
 abbrev pub IsRefusal : Refusal → Type 0

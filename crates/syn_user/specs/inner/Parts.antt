@@ -3,15 +3,15 @@ use Rattle.std.specs.Prelude.{◌≡◌, ◌≢◌, ◌≤◌, ◌-◌, ℕ, Boo
 use Rattle.syn_link.specs.Connections.{writer_of}
 use Rattle.syn_link.specs.declared.error.LinkError.{LinkError}
 use Rattle.syn_link.specs.declared.error.LinkError.TheVariants as link
-use Rattle.syn_message.specs.UserReplies.{Telling, Told}
-use Rattle.syn_message.specs.Users.{Wished}
+use Rattle.syn_message.specs.UserReplies.{UserReplyMessage, UserReply}
+use Rattle.syn_message.specs.Users.{UserRequestMessage}
 use Rattle.syn_model.specs.Limits.{greatest_piece, greatest_spelling}
 use Rattle.syn_model.specs.Spelling.{spelling}
 use Rattle.syn_model.specs.Tree.{Tree}
 use Rattle.syn_model.specs.Version.{current_version}
 use Rattle.syn_refusal.specs.declared.refusal.Refusal.TheVariants.{Full}
 use Rattle.syn_user.specs.Exchanges.{Answers, BreaksOff, IsHeard, IsSent, IsTooLong, IsUnheard}
-use Rattle.syn_user.specs.Lines.{IsUnread, Line}
+use Rattle.syn_user.specs.States.{IsUnread, ConnectionState}
 use Rattle.syn_user.specs.declared.error.UserError.{UserError}
 use Rattle.syn_user.specs.declared.error.UserError.TheVariants.{BadFrame, BadMessage, Device}
 use Rattle.syn_user.specs.declared.error.UserError.TheVariants.{Memory, Refused, TooLarge}
@@ -35,36 +35,37 @@ is_refusal TooLarge = false
 is_refusal BadMessage = false
 
 -- why a request has no body: it is longer than a frame takes, or memory is wanting
-pub data HasNoBody (wished : Wished) : UserError → Type 0 where
-  too_long : IsTooLong wished → HasNoBody wished (Refused Full)
-  wanting : HasNoBody wished Memory
+pub data HasNoBody (asked : UserRequestMessage) : UserError → Type 0 where
+  too_long : IsTooLong asked → HasNoBody asked (Refused Full)
+  wanting : HasNoBody asked Memory
 
 -- a reply to the request
-pub record IsReplyTo (wished : Wished) (telling : Telling) (what : Told) : Type 0 where
-  pub is : telling ≡ record { number = wished.number; told = what }
-  pub answers : Answers wished.wish what
+pub record IsReplyTo (asked : UserRequestMessage) (answered : UserReplyMessage)
+    (what : UserReply) : Type 0 where
+  pub is : answered ≡ record { number = asked.number; reply = what }
+  pub answers : Answers asked.request what
 
 -- another message
-abbrev pub IsForeign : Wished → Telling → Type 0
-IsForeign wished telling = (what : Told) → ¬ IsReplyTo wished telling what
+abbrev pub IsForeign : UserRequestMessage → UserReplyMessage → Type 0
+IsForeign asked answered = (what : UserReply) → ¬ IsReplyTo asked answered what
 
 -- nothing was written, and neither the number nor whether the connection goes on changed
-abbrev pub IsSilent : Line → Line → Type 0
+abbrev pub IsSilent : ConnectionState → ConnectionState → Type 0
 IsSilent old new =
     (new.written ≡ old.written) × (new.goes ≡ old.goes) × (new.next ≡ old.next)
 
-module _ (old new : Line) (wished : Wished) where
+module _ (old new : ConnectionState) (asked : UserRequestMessage) where
   -- the request was sent, and a reply to it came
-  pub record IsAnswered (what : Told) : Type 0 where
-    pub sent : IsSent old new wished
-    pub heard : IsHeard old new wished what
+  pub record IsAnswered (what : UserReply) : Type 0 where
+    pub sent : IsSent old new asked
+    pub heard : IsHeard old new asked what
 
   -- it was too long, or not written whole, or no reply to it was read
   pub data Breaks : UserError → Type 0 where
-    too_long : IsTooLong wished → new ≡ old → Breaks (Refused Full)
-    unsent : (error : UserError) → BreaksOff old new wished error → IsUnread old new →
+    too_long : IsTooLong asked → new ≡ old → Breaks (Refused Full)
+    unsent : (error : UserError) → BreaksOff old new asked error → IsUnread old new →
         Breaks error
-    unheard : (error : UserError) → IsSent old new wished → IsUnheard old new wished error →
+    unheard : (error : UserError) → IsSent old new asked → IsUnheard old new asked error →
         Breaks error
 
 -- what a side's requests are written to

@@ -10,18 +10,18 @@ use Rattle.syn_message.specs.Users.{Edits}
 use Rattle.syn_refusal.specs.declared.refusal.Refusal.TheVariants.{Touched}
 use Rattle.syn_tree.specs.Edits.{edit_of}
 use Rattle.syn_user.specs.Exchanges.{IsTold}
-use Rattle.syn_user.specs.Lines.{line_of}
+use Rattle.syn_user.specs.States.{state_of}
 use Rattle.syn_command.proofs.sending.send_each.Goals as goal
 
 pub loop-edit-preserved : goal.loop-edit-preserved
 loop-edit-preserved g c =
-    let line = line_of g.R.Read.remaining g.W.Write.contents in
+    let state = state_of g.R.Read.remaining g.W.Write.contents in
     let made = c.loop-edit.yielded in
     let edit = c.in-Some.edit in
     let user = c.args.user in
-    let old = line c.args.connection.now in
-    let between = line c.loop-edit.connection in
-    let new = line c.edit.new.self in
+    let old = state c.args.connection.now in
+    let between = state c.loop-edit.connection in
+    let new = state c.edit.new.self in
     let at : c.args.position + length (map edit_of made) ≡ c.loop-edit.last =
     ap (λ n. c.args.position + n) (length-map made edit_of) ∙ sym c.loop-edit.invariant.count in
     let told = subst (λ n. IsTold between new (Edits user (edit_of edit)) (Edited n))
@@ -48,25 +48,25 @@ loop-edit-preserved g c =
 
 pub returns-in_err-line-clause-stopped : goal.returns-in_err-line-clause-stopped
 returns-in_err-line-clause-stopped g c =
-    let line = line_of g.R.Read.remaining g.W.Write.contents in
-    let now = line c.loop-edit.connection in
+    let state = state_of g.R.Read.remaining g.W.Write.contents in
+    let now = state c.loop-edit.connection in
     let made = c.loop-edit.yielded in
     let told = err_from_is_err_and c.from_residual.result c.from_residual.ensures.1 in
     rw (told.1, told.2) (ends_at c.args.user c.args.position c.loop-edit.last
-    (line c.args.connection.now) now now made c.in-Some.edit c.next.new.self.rest.items
+    (state c.args.connection.now) now now made c.in-Some.edit c.next.new.self.rest.items
     c.args.edits.items Memory
     (c.loop-edit.invariant.whole ∙ ap (λ xs. made ++ xs) c.in-Some.ensures.steps.0)
     c.loop-edit.invariant.count c.loop-edit.invariant.made (unasked refl))
 
 pub returns-in_err-made-clause-stopped : goal.returns-in_err-made-clause-stopped
 returns-in_err-made-clause-stopped g c =
-    let line = line_of g.R.Read.remaining g.W.Write.contents in
+    let state = state_of g.R.Read.remaining g.W.Write.contents in
     let made = c.loop-edit.yielded in
     let error = c.in_err-made.field-0.0 in
     let told = err_from_is_err_and c.from_residual-in_err-made.result
     c.from_residual-in_err-made.ensures.1 in
     rw (told.1, told.2) (ends_at c.args.user c.args.position c.loop-edit.last
-    (line c.args.connection.now) (line c.loop-edit.connection) (line c.edit.new.self) made
+    (state c.args.connection.now) (state c.loop-edit.connection) (state c.edit.new.self) made
     c.in-Some.edit c.next.new.self.rest.items c.args.edits.items (User error)
     (c.loop-edit.invariant.whole ∙ ap (λ xs. made ++ xs) c.in-Some.ensures.steps.0)
     c.loop-edit.invariant.count c.loop-edit.invariant.made
@@ -74,13 +74,13 @@ returns-in_err-made-clause-stopped g c =
 
 pub returns-in_err-last-clause-stopped : goal.returns-in_err-last-clause-stopped
 returns-in_err-last-clause-stopped g c =
-    let line = line_of g.R.Read.remaining g.W.Write.contents in
+    let state = state_of g.R.Read.remaining g.W.Write.contents in
     let made = c.loop-edit.yielded in
     let told = err_from_is_err_and c.from_residual-in_err-last.result
     c.from_residual-in_err-last.ensures.1 in
     rw (told.1, told.2, c.in_err-last.ensures.refused.0) (ends_at c.args.user c.args.position
-    c.loop-edit.last (line c.args.connection.now) (line c.loop-edit.connection)
-    (line c.edit.new.self) made c.in-Some.edit c.next.new.self.rest.items c.args.edits.items
+    c.loop-edit.last (state c.args.connection.now) (state c.loop-edit.connection)
+    (state c.edit.new.self) made c.in-Some.edit c.next.new.self.rest.items c.args.edits.items
     (Refused Touched)
     (c.loop-edit.invariant.whole ∙ ap (λ xs. made ++ xs) c.in-Some.ensures.steps.0)
     c.loop-edit.invariant.count c.loop-edit.invariant.made

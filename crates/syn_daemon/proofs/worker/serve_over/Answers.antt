@@ -2,7 +2,7 @@ use Rattle.std.proofs.Common.{◌∙◌, ap}
 use Rattle.syn_agent.specs.Agents.{staging_of}
 use Rattle.syn_daemon.proofs.ConnectionLemmas.{served_whole}
 use Rattle.syn_daemon.proofs.worker.serve_over.Goals as goal
-use Rattle.syn_serve.specs.Lines.{agent_of, held_by, line_of, reader_of, writer_of}
+use Rattle.syn_serve.specs.States.{agent_of, held_by, state_of, reader_of, writer_of}
 use Rattle.syn_serve.specs.Servings.{connection_in, ended_in}
 
 pub returns : goal.returns
@@ -12,7 +12,7 @@ returns g c =
     let remaining = g.R.Read.remaining in
     let contents = g.W.Write.contents in
     served_whole g.row.D.Denot g.D.Disk (remaining c.args.reader) (contents c.args.writer)
-    (λ s. line_of remaining contents (connection_in s)) (λ s. ended_in s) c.new-serving.result
+    (λ s. state_of remaining contents (connection_in s)) (λ s. ended_in s) c.new-serving.result
     c.serve.new.work c.args.drawn c.serve.result c.ended.result c.ended.ensures serving.ended
     (record {
       given_first = ap (λ k. remaining (reader_of k)) serving.connection

@@ -2,7 +2,7 @@ use Rattle.syn_history.specs.Events.{event_of}
 use Rattle.syn_model.specs.Event.{Edited}
 use Rattle.syn_model.specs.Spelling.{event_spelling}
 use Rattle.syn_message.proofs.WholeLemmas.{failed_whole, no_end, no_value}
-use Rattle.syn_message.proofs.WishLemmas.{edit_none}
+use Rattle.syn_message.proofs.UserRequestFieldsLemmas.{edit_none}
 use Rattle.syn_message.proofs.user_reading.read_edit.Goals as goal
 use Rattle.syn_model.specs.Version.{Two}
 use Rattle.syn_wire.specs.Events.{IsSpelledEvent}

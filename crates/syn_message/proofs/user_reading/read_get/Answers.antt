@@ -1,5 +1,5 @@
 use Rattle.syn_model.specs.Path.{IsPath, path_spelling}
-use Rattle.syn_message.proofs.WishLemmas.{get_none}
+use Rattle.syn_message.proofs.UserRequestFieldsLemmas.{get_none}
 use Rattle.syn_message.proofs.WholeLemmas.{failed_whole, no_end, no_value}
 use Rattle.syn_message.proofs.user_reading.read_get.Goals as goal
 

@@ -3,17 +3,17 @@ use Rattle.std.proofs.lemmas.Result.{err_from_is_err_and}
 use Rattle.syn_serve.proofs.ServeLemmas.{closes_for}
 use Rattle.syn_serve.proofs.connection.ServerConnection.receive.Goals as goal
 use Rattle.syn_link.specs.Connections.{held_by, reader_of, writer_of}
-use Rattle.syn_serve.specs.Lines.{line_of}
+use Rattle.syn_serve.specs.States.{state_of}
 
 pub returns-in_err-body-clause-closes : goal.returns-in_err-body-clause-closes
 returns-in_err-body-clause-closes g c =
     let p = err_from_is_err_and c.from_residual.result c.from_residual.ensures.1 in
-    let line = line_of g.R.Read.remaining g.W.Write.contents in
-    rw (p.1, p.2) (closes_for c.in_err-body.field-0.0 (line c.args.self.now)
+    let state = state_of g.R.Read.remaining g.W.Write.contents in
+    rw (p.1, p.2) (closes_for c.in_err-body.field-0.0 (state c.args.self.now)
     (record {
       given = g.R.Read.remaining (reader_of c.receive.new.self);
       held = held_by c.receive.new.self;
-      agent = (line c.args.self.now).agent;
+      agent = (state c.args.self.now).agent;
       written = g.W.Write.contents (writer_of c.receive.new.self);
     }) c.in_err-body.ensures.fault)
 

@@ -5,7 +5,7 @@ use Rattle.syn_link.specs.Frames.{IsBody}
 use Rattle.syn_serve.proofs.BodyLemmas.{is_body}
 use Rattle.syn_serve.proofs.ServeLemmas.{breaks_off}
 use Rattle.syn_serve.proofs.connection.ServerConnection.send.Goals as goal
-use Rattle.syn_serve.specs.Lines.{BreaksOff, writer_of}
+use Rattle.syn_serve.specs.States.{BreaksOff, writer_of}
 use Rattle.syn_serve.specs.Messages.{response_of}
 use Rattle.syn_serve.specs.inner.Parts.{of_link}
 

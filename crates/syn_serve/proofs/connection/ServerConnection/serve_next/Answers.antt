@@ -4,7 +4,7 @@ use Rattle.syn_serve.proofs.ServeLemmas.{answered_so}
 use Rattle.syn_shared.proofs.HoldLemmas.{later_same}
 use Rattle.syn_serve.proofs.connection.ServerConnection.serve_next.Goals as goal
 use Rattle.syn_serve.specs.Exchanges.{answers, breaks, closes, ends}
-use Rattle.syn_serve.specs.Lines.{BreaksOff, Sends, line_of}
+use Rattle.syn_serve.specs.States.{BreaksOff, Sends, state_of}
 use Rattle.syn_serve.specs.Messages.{message_of, response_of, response_spelling}
 
 pub returns-in_err-request-clause-exchanges : goal.returns-in_err-request-clause-exchanges
@@ -28,7 +28,7 @@ pub returns-in_err-send-clause-exchanges : goal.returns-in_err-send-clause-excha
 returns-in_err-send-clause-exchanges g c =
     let p = err_from_is_err_and c.from_residual-in_err-send.result
     c.from_residual-in_err-send.ensures.1 in
-    let line = line_of g.R.Read.remaining g.W.Write.contents in
+    let state = state_of g.R.Read.remaining g.W.Write.contents in
     let told = c.in_ok-request.ensures in
     let received = rw c.in-Some.is at told.request in
     let message = message_of c.in-Some.request in
@@ -36,23 +36,23 @@ returns-in_err-send-clause-exchanges g c =
     let rest = c.send.ensures.rest in
     let error = c.in_err-send.field-0.0 in
     rw (p.1, p.2) (breaks message response error
-    (answered_so c.args.shared.now (line c.args.self.now) (line c.receive.new.self)
-    (line c.send.new.self) c.answer-reply.new.agent c.args.pass.now c.answer-reply.new.pass message
+    (answered_so c.args.shared.now (state c.args.self.now) (state c.receive.new.self)
+    (state c.send.new.self) c.answer-reply.new.agent c.args.pass.now c.answer-reply.new.pass message
     response received told.silent c.answer-reply.ensures.held rest.0 rest.1 rest.2)
-    (subst (λ w. BreaksOff error w (line c.send.new.self).written (response_spelling response))
+    (subst (λ w. BreaksOff error w (state c.send.new.self).written (response_spelling response))
     told.silent.1 c.in_err-send.ensures.broken))
 
 pub returns-clause-exchanges : goal.returns-clause-exchanges
 returns-clause-exchanges g c =
-    let line = line_of g.R.Read.remaining g.W.Write.contents in
+    let state = state_of g.R.Read.remaining g.W.Write.contents in
     let told = c.in_ok-request.ensures in
     let received = rw c.in-Some.is at told.request in
     let message = message_of c.in-Some.request in
     let response = response_of c.answer-reply.result in
     let rest = c.send.ensures.rest in
     answers message response
-    (answered_so c.args.shared.now (line c.args.self.now) (line c.receive.new.self)
-    (line c.send.new.self) c.answer-reply.new.agent c.args.pass.now c.answer-reply.new.pass message
+    (answered_so c.args.shared.now (state c.args.self.now) (state c.receive.new.self)
+    (state c.send.new.self) c.answer-reply.new.agent c.args.pass.now c.answer-reply.new.pass message
     response received told.silent c.answer-reply.ensures.held rest.0 rest.1 rest.2)
-    (subst (λ w. Sends w (line c.send.new.self).written (response_spelling response)) told.silent.1
+    (subst (λ w. Sends w (state c.send.new.self).written (response_spelling response)) told.silent.1
     c.in_ok-send.ensures.sent)

@@ -1,5 +1,5 @@
 use Rattle.std.proofs.Common.{◌∙◌, subst, sym}
-use Rattle.syn_message.specs.Replies.{answering_of}
+use Rattle.syn_message.specs.Replies.{reply_message_of}
 use Rattle.syn_path.specs.Sides.{which_of}
 use Rattle.syn_coordinator.specs.Coordinators.{written}
 use Rattle.syn_session.specs.Sendings.{messages_of}
@@ -7,7 +7,7 @@ use Rattle.syn_sync.proofs.RunLemmas.{drives_none, drives_take, drives_taken, dr
 use Rattle.syn_sync.proofs.RunLemmas.{stands_of}
 use Rattle.syn_sync.proofs.WriteLemmas.{writes_nothing}
 use Rattle.syn_sync.proofs.driver.Driver.go_on.Goals as goal
-use Rattle.syn_sync.specs.Drivers.{lines_of, outlets_of}
+use Rattle.syn_sync.specs.Drivers.{states_of, outlets_of}
 use Rattle.syn_sync.specs.Outlets.{Writes}
 use Rattle.syn_sync.specs.Runs.{frames_to}
 
@@ -16,9 +16,9 @@ loop-init g c = record {
   drives = λ pair machine stands.
       let outlets = outlets_of {R = g.row.R.Denot} {W = g.row.W.Denot} g.W.Write.contents
       c.args.self.now in
-      let lines = lines_of {R = g.row.R.Denot} {W = g.row.W.Denot} g.R.Read.remaining
+      let states = states_of {R = g.row.R.Denot} {W = g.row.W.Denot} g.R.Read.remaining
       c.args.self.now in
-      drives_none c.args.coordinator.now pair machine lines outlets outlets stands
+      drives_none c.args.coordinator.now pair machine states outlets outlets stands
       stands.journal.goes (λ side. writes_nothing (outlets side) (outlets side).goes);
   calm = c.requires.goes;
 }
@@ -26,19 +26,19 @@ loop-init g c = record {
 -- the session has ended, no side is read any more, or the loop is at its end
 pub returns-then-not-is_running : goal.returns-then-not-is_running
 returns-then-not-is_running g c = λ pair machine stands. (
-  lines_of {R = g.row.R.Denot} {W = g.row.W.Denot} g.R.Read.remaining c.loop.self,
+  states_of {R = g.row.R.Denot} {W = g.row.W.Denot} g.R.Read.remaining c.loop.self,
   c.loop.invariant.drives pair machine stands,
 )
 
 pub returns-in_default : goal.returns-in_default
 returns-in_default g c = λ pair machine stands. (
-  lines_of {R = g.row.R.Denot} {W = g.row.W.Denot} g.R.Read.remaining c.loop.self,
+  states_of {R = g.row.R.Denot} {W = g.row.W.Denot} g.R.Read.remaining c.loop.self,
   c.loop.invariant.drives pair machine stands,
 )
 
 pub returns : goal.returns
 returns g c = λ pair machine stands. (
-  lines_of {R = g.row.R.Denot} {W = g.row.W.Denot} g.R.Read.remaining c.loop.self,
+  states_of {R = g.row.R.Denot} {W = g.row.W.Denot} g.R.Read.remaining c.loop.self,
   c.loop.invariant.drives pair machine stands,
 )
 
@@ -46,14 +46,14 @@ returns g c = λ pair machine stands. (
 pub returns-in_default-receive : goal.returns-in_default-receive
 returns-in_default-receive g c = λ pair machine stands.
     let outlets = outlets_of {R = g.row.R.Denot} {W = g.row.W.Denot} g.W.Write.contents in
-    let lines = lines_of {R = g.row.R.Denot} {W = g.row.W.Denot} g.R.Read.remaining in
+    let states = states_of {R = g.row.R.Denot} {W = g.row.W.Denot} g.R.Read.remaining in
     let here = c.loop.invariant.drives pair machine stands in
     let calm = c.loop.invariant.calm in (
-      lines c.loop.self,
-      drives_twice c.loop.coordinator c.loop.coordinator pair machine (lines c.args.self.now)
-          (lines c.loop.self) (lines c.loop.self) (outlets c.args.self.now)
+      states c.loop.self,
+      drives_twice c.loop.coordinator c.loop.coordinator pair machine (states c.args.self.now)
+          (states c.loop.self) (states c.loop.self) (outlets c.args.self.now)
           (outlets c.loop.self) (outlets c.receive.new.self) here calm
-          (drives_none c.loop.coordinator pair here.reached (lines c.loop.self)
+          (drives_none c.loop.coordinator pair here.reached (states c.loop.self)
           (outlets c.loop.self) (outlets c.receive.new.self)
           (stands_of c.loop.coordinator pair here.reached here.ends calm) calm
           c.receive.ensures.written),
@@ -63,18 +63,18 @@ returns-in_default-receive g c = λ pair machine stands.
 pub returns-then-is_cut : goal.returns-then-is_cut
 returns-then-is_cut g c = λ pair machine stands.
     let outlets = outlets_of {R = g.row.R.Denot} {W = g.row.W.Denot} g.W.Write.contents in
-    let lines = lines_of {R = g.row.R.Denot} {W = g.row.W.Denot} g.R.Read.remaining in
+    let states = states_of {R = g.row.R.Denot} {W = g.row.W.Denot} g.R.Read.remaining in
     let here = c.loop.invariant.drives pair machine stands in
     let calm = c.loop.invariant.calm in
     let new = c.hear-sends.new.coordinator in (
-      lines c.receive.new.self,
-      drives_twice c.loop.coordinator new pair machine (lines c.args.self.now)
-          (lines c.loop.self) (lines c.receive.new.self) (outlets c.args.self.now)
+      states c.receive.new.self,
+      drives_twice c.loop.coordinator new pair machine (states c.args.self.now)
+          (states c.loop.self) (states c.receive.new.self) (outlets c.args.self.now)
           (outlets c.loop.self) (outlets c.receive.new.self) here calm
           (drives_taken c.loop.coordinator new pair here.reached (which_of c.in-Some.from)
-          (answering_of c.in-Some-receive.answered) (written new)
-          (messages_of c.hear-sends.result.items) (lines c.loop.self)
-          (lines c.receive.new.self) (outlets c.loop.self) (outlets c.receive.new.self)
+          (reply_message_of c.in-Some-receive.answered) (written new)
+          (messages_of c.hear-sends.result.items) (states c.loop.self)
+          (states c.receive.new.self) (outlets c.loop.self) (outlets c.receive.new.self)
           (c.hear-sends.ensures pair here.reached
           (stands_of c.loop.coordinator pair here.reached here.ends calm))
           c.in-Some-receive.ensures.heard c.receive.ensures.written
@@ -86,24 +86,24 @@ pub loop-preserved : goal.loop-preserved
 loop-preserved g c = record {
   drives = λ pair machine stands.
       let outlets = outlets_of {R = g.row.R.Denot} {W = g.row.W.Denot} g.W.Write.contents in
-      let lines = lines_of {R = g.row.R.Denot} {W = g.row.W.Denot} g.R.Read.remaining in
+      let states = states_of {R = g.row.R.Denot} {W = g.row.W.Denot} g.R.Read.remaining in
       let here = c.loop.invariant.drives pair machine stands in
       let calm = c.loop.invariant.calm in
       let new = c.hear-sends.new.coordinator in
       let to = c.send_all.new.self in
-      drives_twice c.loop.coordinator new pair machine (lines c.args.self.now)
-      (lines c.loop.self) (lines to) (outlets c.args.self.now)
+      drives_twice c.loop.coordinator new pair machine (states c.args.self.now)
+      (states c.loop.self) (states to) (outlets c.args.self.now)
       (outlets c.loop.self) (outlets to) here calm
       (drives_take c.loop.coordinator new pair here.reached (which_of c.in-Some.from)
-      (answering_of c.in-Some-receive.answered) (written new)
-      (messages_of c.hear-sends.result.items) (lines c.loop.self)
-      (lines c.receive.new.self) (lines to) (outlets c.loop.self)
+      (reply_message_of c.in-Some-receive.answered) (written new)
+      (messages_of c.hear-sends.result.items) (states c.loop.self)
+      (states c.receive.new.self) (states to) (outlets c.loop.self)
       (outlets c.receive.new.self) (outlets to)
       (c.hear-sends.ensures pair here.reached
       (stands_of c.loop.coordinator pair here.reached here.ends calm))
       c.in-Some-receive.ensures.heard c.receive.ensures.written
       (sym c.is_cut.ensures ∙ c.if-is_cut.false)
-      c.send_all.ensures.lines
+      c.send_all.ensures.states
       (λ side. subst (λ sends. Writes (outlets c.receive.new.self side) (outlets to side)
       (frames_to side (messages_of sends)) (outlets to side).goes) c.deref.ensures.value
       (c.send_all.ensures.written side)));

@@ -1,7 +1,7 @@
 use Rattle.std.proofs.Common.{refl, subst, sym}
 use Rattle.syn_headline.specs.Network.{Asks, Left, Right, Which}
 use Rattle.syn_link.specs.Frames.{frame_of}
-use Rattle.syn_message.specs.Requests.{asking_of, asking_spelling, request_of}
+use Rattle.syn_message.specs.Requests.{request_message_of, request_spelling, request_of}
 use Rattle.syn_message.specs.declared.request.RequestMessage.{RequestMessage}
 use Rattle.syn_path.specs.Sides.{which_of}
 use Rattle.syn_sync.proofs.WriteLemmas.{sent_left, sent_right}
@@ -23,7 +23,7 @@ returns-in-Left-clause-written g c =
     (sym c.in-Left.is)
     (sent_left asked.session asked.number request from to
     (subst (λ (m : RequestMessage). Writes (from Left) (to Left)
-    (frame_of (asking_spelling (asking_of m))) (to Left).goes) c.deref.ensures
+    (frame_of (request_spelling (request_message_of m))) (to Left).goes) c.deref.ensures
     c.send.ensures.written) refl)
 
 pub returns-in-Right-clause-written : goal.returns-in-Right-clause-written
@@ -39,5 +39,5 @@ returns-in-Right-clause-written g c =
     (sym c.in-Right.is)
     (sent_right asked.session asked.number request from to
     (subst (λ (m : RequestMessage). Writes (from Right) (to Right)
-    (frame_of (asking_spelling (asking_of m))) (to Right).goes) c.deref-in-Right.ensures
+    (frame_of (request_spelling (request_message_of m))) (to Right).goes) c.deref-in-Right.ensures
     c.send-in-Right.ensures.written) refl)

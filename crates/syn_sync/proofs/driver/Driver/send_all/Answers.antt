@@ -21,5 +21,5 @@ loop-sending-preserved g c =
           (outlets c.send.new.self side) (frames_to side (messages_of (take i sends)))
           (frame_to side (message_of sending)) (c.loop-sending.invariant.written side)
           (c.send.ensures.written side));
-      lines = λ side. c.send.ensures.lines side ∙ c.loop-sending.invariant.lines side;
+      states = λ side. c.send.ensures.states side ∙ c.loop-sending.invariant.states side;
     }

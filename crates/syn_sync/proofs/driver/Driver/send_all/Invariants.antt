@@ -2,7 +2,7 @@ use Rattle.std.proofs.Common.{◌≡◌, take}
 use Rattle.syn_headline.specs.Network.{Which}
 use Rattle.syn_session.specs.Sendings.{messages_of}
 use Rattle.syn_sync.proofs.driver.Driver.send_all.Given as goal
-use Rattle.syn_sync.specs.Drivers.{lines_of, outlets_of}
+use Rattle.syn_sync.specs.Drivers.{states_of, outlets_of}
 use Rattle.syn_sync.specs.Outlets.{Writes}
 use Rattle.syn_sync.specs.Runs.{frames_to}
 
@@ -10,9 +10,9 @@ use Rattle.syn_sync.specs.Runs.{frames_to}
 abbrev pub invariant-loop-sending : goal.invariant-loop-sending
 invariant-loop-sending g l =
     let outlets = outlets_of g.W.Write.contents in
-    let lines = lines_of g.R.Read.remaining in record {
+    let states = states_of g.R.Read.remaining in record {
       written : (side : Which) → Writes (outlets l.fn.self side) (outlets l.self side)
           (frames_to side (messages_of (take l.sending-index l.sends)))
           (outlets l.self side).goes;
-      lines : (side : Which) → lines l.self side ≡ lines l.fn.self side;
+      states : (side : Which) → states l.self side ≡ states l.fn.self side;
     }

@@ -8,7 +8,7 @@ returns-in_default-2-clause-unheard g c =
       c.in-Some.body.items,
       came,
       λ what answers fits is.
-          none (record { number = c.args.asked.now.number; told = what })
+          none (record { number = c.args.asked.now.number; reply = what })
           (record { number = c.requires.number; lawful = fits })
           (c.deref.ensures.value ∙ is),
     )

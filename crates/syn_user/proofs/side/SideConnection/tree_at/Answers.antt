@@ -7,12 +7,12 @@ use Rattle.syn_user.proofs.PieceLemmas.{AreFirst, goes_on, is_all, next_of, none
 use Rattle.syn_user.proofs.PieceLemmas.{spelled_short}
 use Rattle.syn_user.proofs.SideLemmas.{Gathers, no_piece_so, piece_gathered, pieces_of}
 use Rattle.syn_user.proofs.SideLemmas.{refused_so, touched_so}
-use Rattle.syn_user.specs.Sides.{NoPieces, SideLine, no_tree, side_line}
+use Rattle.syn_user.specs.Sides.{NoPieces, SideState, no_tree, side_state}
 use Rattle.syn_user.specs.inner.Parts.{IsNext}
 use Rattle.syn_user.proofs.side.SideConnection.tree_at.Goals as goal
 
 -- what was gathered, with what is equal to it
-gathers_with : (position count : ℕ) (a b : SideLine) (told now : _) (bytes items : Bytes)
+gathers_with : (position count : ℕ) (a b : SideState) (told now : _) (bytes items : Bytes)
     → now ≡ told → items ≡ bytes → (all : Gathers position a b bytes)
     → AreFirst count told bytes all.0
     → (all : Gathers position a b items) × AreFirst count now items all.0
@@ -28,10 +28,10 @@ returns-in_default-clause-none g c =
 
 pub returns-in_err-total-clause-refused : goal.returns-in_err-total-clause-refused
 returns-in_err-total-clause-refused g c =
-    let line = side_line g.R.Read.remaining g.W.Write.contents in
+    let state = side_state g.R.Read.remaining g.W.Write.contents in
     let error = c.in_err-total.field-0.0 in
     if_err_of_exit c.from_residual.result error
-    (NoPieces c.args.position (line c.args.self.now) (line c.piece.new.self))
+    (NoPieces c.args.position (state c.args.self.now) (state c.piece.new.self))
     c.from_residual.ensures.1 (no_piece_so _ _ _ _ _ _ c.offset.ensures error
     c.loop-count.invariant.0
     c.in_err-total.ensures.refused)
@@ -54,7 +54,7 @@ loop-count-init g c = (
 
 pub loop-count-preserved : goal.loop-count-preserved
 loop-count-preserved g c =
-    let line = side_line g.R.Read.remaining g.W.Write.contents in
+    let state = side_state g.R.Read.remaining g.W.Write.contents in
     let before = c.loop-count.gathered in
     let so_far = before.bytes.items in
     let all = c.loop-count.invariant.0 in
@@ -65,15 +65,15 @@ loop-count-preserved g c =
     let others : Some piece.0 ≢ Some (length (so_far ++ piece.1)) =
     λ same. true≢false (sym (c.is_whole.ensures.1 (c.in_ok-take.ensures.total
     ∙ (same ∙ ap (λ bs. Some (length bs)) (sym taken)))) ∙ c.if-is_whole.false) in
-    gathers_with c.args.position (c.loop-count._count + 1) (line c.args.self.now)
-    (line c.piece.new.self) (Some piece.0) c.take.new.self.total (so_far ++ piece.1)
+    gathers_with c.args.position (c.loop-count._count + 1) (state c.args.self.now)
+    (state c.piece.new.self) (Some piece.0) c.take.new.self.total (so_far ++ piece.1)
     c.take.new.self.bytes.items c.in_ok-take.ensures.total taken more
     (λ spelled are. goes_on c.loop-count._count before.total so_far all.0 piece all.2
     c.loop-count.invariant.1 spelled are others)
 
 pub returns-in_err-take-clause-refused : goal.returns-in_err-take-clause-refused
 returns-in_err-take-clause-refused g c =
-    let line = side_line g.R.Read.remaining g.W.Write.contents in
+    let state = side_state g.R.Read.remaining g.W.Write.contents in
     let before = c.loop-count.gathered in
     let so_far = before.bytes.items in
     let all = c.loop-count.invariant.0 in
@@ -82,7 +82,7 @@ returns-in_err-take-clause-refused g c =
     let more = piece_gathered _ _ _ _ so_far _ c.offset.ensures piece.1 piece.0 all came in
     let error = c.in_err-take.field-0.0 in
     if_err_of_exit c.from_residual-in_err-take.result error
-    (NoPieces c.args.position (line c.args.self.now) (line c.piece.new.self))
+    (NoPieces c.args.position (state c.args.self.now) (state c.piece.new.self))
     c.from_residual-in_err-take.ensures.1
     (refused_so _ _ _ more.0 error more.1 (elim c.in_err-take.ensures.refused [
       | inl both ↦ inl (
@@ -98,7 +98,7 @@ returns-in_err-take-clause-refused g c =
 
 pub returns-in_err-tree-clause-refused : goal.returns-in_err-tree-clause-refused
 returns-in_err-tree-clause-refused g c =
-    let line = side_line g.R.Read.remaining g.W.Write.contents in
+    let state = side_state g.R.Read.remaining g.W.Write.contents in
     let before = c.loop-count.gathered in
     let so_far = before.bytes.items in
     let all = c.loop-count.invariant.0 in
@@ -111,7 +111,7 @@ returns-in_err-tree-clause-refused g c =
     ∙ ap (λ bs. Some (length bs)) taken) in
     let error = c.in_err-tree.field-0.0 in
     if_err_of_exit c.from_residual-in_err-tree.result error
-    (NoPieces c.args.position (line c.args.self.now) (line c.piece.new.self))
+    (NoPieces c.args.position (state c.args.self.now) (state c.piece.new.self))
     c.from_residual-in_err-tree.ensures.1
     (refused_so _ _ _ more.0 error more.1 (elim c.in_err-tree.ensures.refused [
       | inl both ↦ inl (

@@ -1,5 +1,5 @@
 use Rattle.std.proofs.Common.{◌≡◌, ◌∙◌, ap, get_or}
-use Rattle.syn_disk.specs.Halves.{HalvesMayLeave, both_contents, length-halves}
+use Rattle.syn_disk.specs.Parts.{PartsMayLeave, both_contents, length-parts}
 use Rattle.syn_disk.proofs.Joined.{none_joined}
 use Rattle.syn_disk.proofs.Moments.{elapses_noted, only_durable}
 use Rattle.syn_disk.proofs.simulated.memory.MemDiskDisk.sync.Goals as goal
@@ -9,7 +9,7 @@ returns-clause-durable c =
     let disk = c.args.self.now in
     let same : both_contents c.sync.new.self c.sync-2.new.self ≡ both_contents disk.low disk.high =
     cc (c.sync.ensures.content, c.sync-2.ensures.content) in
-    λ after left. only_durable _ _ (length-halves c.sync.new.self c.sync-2.new.self)
+    λ after left. only_durable _ _ (length-parts c.sync.new.self c.sync-2.new.self)
     (none_joined _ _ c.sync.ensures.clean c.sync-2.ensures.clean) after left ∙ same
 
 pub returns-clause-stop : goal.returns-clause-stop
@@ -25,4 +25,4 @@ returns-clause-stop c =
     }
 
 pub returns-clause-time : goal.returns-clause-time
-returns-clause-time c = rw c.note.ensures (elapses_noted HalvesMayLeave _ _ _)
+returns-clause-time c = rw c.note.ensures (elapses_noted PartsMayLeave _ _ _)

@@ -1,7 +1,0 @@
-use Rattle.std.proofs.Common.{◌∙◌, false}
-use Rattle.syn_disk.specs.declared.disk.TheConstants.{HALF_SIZE}
-use Rattle.syn_disk.proofs.Padding.{get-padded}
-use Rattle.syn_disk.proofs.simulated.half.SimulatedHalf.sync.Goals as goal
-
-pub returns-clause-clean : goal.returns-clause-clean
-returns-clause-clean c = λ i. get-padded false _ HALF_SIZE i ∙ c.clear.ensures.none i

@@ -1,0 +1,11 @@
+use Rattle.std.proofs.Common.{◌∙◌, false}
+use Rattle.syn_disk.specs.declared.disk.TheConstants.{PART_SIZE}
+use Rattle.syn_disk.proofs.Padding.{get-padded}
+use Rattle.syn_disk.proofs.Stopped.{left_padded}
+use Rattle.syn_disk.proofs.simulated.part.SimulatedPart.stop.Goals as goal
+
+pub returns-clause-each : goal.returns-clause-each
+returns-clause-each c = left_padded _ _ _ _ PART_SIZE _ c.args.self.now.tracks c.leave.ensures.each
+
+pub returns-clause-clean : goal.returns-clause-clean
+returns-clause-clean c = λ i. get-padded false _ PART_SIZE i ∙ c.clear.ensures.none i
