@@ -16,7 +16,7 @@ use std::thread::Threads;
 use std::time::Clock;
 use syn_cli::{Command, ImageCommand, ImportCommand, LineError, ReconcileCommand, read_words};
 use syn_command::{
-    CommandError, Failure, Outcome, ProgressMode, Status, print_meanings, tell_answer,
+    CommandError, Failure, Outcome, Status, Teller, Verbosity, print_meanings, tell_answer,
 };
 use syn_disk::OsFile;
 use syn_files::{
@@ -24,9 +24,19 @@ use syn_files::{
     print_numbers, print_path, print_plan, reconcile_named, run_session, serve_named,
 };
 
-/// Carries out what the words ask for, of which the first is the program's own name. What is asked
-/// for goes to `output`, and why it is refused to `errors`, with what is told of a session. Whether
-/// `errors` is a terminal is told by the caller: there a refusal is explained unasked.
+/// The standard streams of a command.
+#[derive(Drop)]
+pub struct Standard<'s, I, O, E> {
+    pub input: &'s mut I,
+    /// What is asked for goes there.
+    pub output: &'s mut O,
+    /// Why a command is refused goes there, with what is told of its work.
+    pub errors: &'s mut E,
+    /// Whether the errors go to a terminal, where a refusal is explained unasked.
+    pub is_terminal: bool,
+}
+
+/// Carries out what the words ask for, of which the first is the program's own name.
 ///
 /// Paths are read before a file is opened, and the input after it.
 pub fn command<H, F, I, O, E>(
@@ -34,10 +44,7 @@ pub fn command<H, F, I, O, E>(
     alloc: Global,
     words: &[&str],
     files: &F,
-    input: &mut I,
-    output: &mut O,
-    errors: &mut E,
-    is_terminal: bool,
+    streams: Standard<'_, I, O, E>,
 ) -> Status
 where
     H: Net<Listener = TcpListener, Stream = TcpStream> + Threads + Wait + Clock + Eprint,
@@ -60,6 +67,12 @@ where
         → ¬ AsksHelp (map (λ word. word.now) words.entry.now)
         → (result ≡ Status.Usage) ⊎ (result ≡ Status.Refused) }
 {
+    let Standard {
+        input,
+        output,
+        errors,
+        is_terminal,
+    } = streams;
     let arguments = match read_words(alloc, words) {
         Ok(arguments) => arguments,
         Err(error) => return tell(&error, output, errors),
@@ -69,7 +82,7 @@ where
         alloc,
         files,
         disks: &DisksInFiles(files),
-        progress: ProgressMode {
+        verbosity: Verbosity {
             each: arguments.is_verbose,
             counts: is_terminal,
         },
@@ -90,7 +103,7 @@ struct Context<'c, H, F, N> {
     alloc: Global,
     files: &'c F,
     disks: &'c N,
-    progress: ProgressMode,
+    verbosity: Verbosity,
 }
 
 /// Tells why the words are no command, or the help or the version where the words ask for it.
@@ -148,18 +161,16 @@ where
     O: Write,
     E: Write,
 {
-    let (rt, alloc, disks, progress) = (context.rt, context.alloc, context.disks, context.progress);
+    let (rt, alloc, disks) = (context.rt, context.alloc, context.disks);
+    let verbosity = context.verbosity;
+    let teller = &mut Teller { verbosity, errors };
     let outcome = match command {
-        Command::Session(pairing) => {
-            run_session(rt, alloc, disks, *pairing, progress, output, errors)?
-        }
-        Command::Keep(command) => keep_servers(
-            rt, alloc, disks, command, progress, output, errors,
-        )?,
+        Command::Session(pairing) => { run_session(rt, alloc, disks, *pairing, output, teller)? }
+        Command::Keep(command) => keep_servers(rt, alloc, disks, command, output, teller)?,
         Command::Plan(pairing) => print_plan(rt, alloc, disks, *pairing, output)?,
         Command::Edit(command) => done_at(edit(rt, alloc, command, disks, input)?, output)?,
-        Command::Import(command) => import_into(context, command, output, errors)?,
-        Command::Reconcile(command) => reconcile_with(context, command, output, errors)?,
+        Command::Import(command) => import_into(context, command, output, teller)?,
+        Command::Reconcile(command) => reconcile_with(context, command, output, teller)?,
         Command::Export(command) => done_at(
             export(rt, alloc, disks, context.files, command)?,
             output,
@@ -183,7 +194,7 @@ fn import_into<H, F, N, O, E>(
     context: &Context<'_, H, F, N>,
     command: &ImportCommand<'_>,
     output: &mut O,
-    errors: &mut E,
+    teller: &mut Teller<'_, E>,
 ) -> Result<Outcome, Failure>
 where
     H: Net<Stream = TcpStream>,
@@ -192,16 +203,8 @@ where
     O: Write,
     E: Write,
 {
-    let (files, progress) = (context.files, context.progress);
-    let position = import(
-        context.rt,
-        context.alloc,
-        context.disks,
-        files,
-        command,
-        progress,
-        errors,
-    )?;
+    let (rt, alloc, disks) = (context.rt, context.alloc, context.disks);
+    let position = import(rt, alloc, disks, context.files, command, teller)?;
     done_at(position, output)
 }
 
@@ -210,7 +213,7 @@ fn reconcile_with<H, F, N, O, E>(
     context: &Context<'_, H, F, N>,
     command: &ReconcileCommand<'_>,
     output: &mut O,
-    errors: &mut E,
+    teller: &mut Teller<'_, E>,
 ) -> Result<Outcome, Failure>
 where
     F: Files,
@@ -220,17 +223,9 @@ where
 {
     let (alloc, disks, files) = (context.alloc, context.disks, context.files);
     let outcome = if command.is_dry {
-        plan_named(alloc, disks, files, command, output, errors)?
+        plan_named(alloc, disks, files, command, output, teller.errors)?
     } else {
-        reconcile_named(
-            alloc,
-            disks,
-            files,
-            command,
-            context.progress,
-            output,
-            errors,
-        )?
+        reconcile_named(alloc, disks, files, command, output, teller)?
     };
     Ok(outcome)
 }

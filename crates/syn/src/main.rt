@@ -44,7 +44,7 @@ mod format;
 mod simulation;
 mod streams;
 
-use command::command;
+use command::{Standard, command};
 use std::alloc::Global;
 use std::io::{self, BufWriter, ErrorKind, IsTerminal, Write};
 use std::process::ExitCode;
@@ -74,10 +74,12 @@ fn main(rt: HostRuntime) -> ExitCode {
         alloc,
         &words,
         &rt,
-        &mut rt.stdin(),
-        &mut output,
-        &mut rt.stderr(),
-        rt.stderr().is_terminal(),
+        Standard {
+            input: &mut rt.stdin(),
+            output: &mut output,
+            errors: &mut rt.stderr(),
+            is_terminal: rt.stderr().is_terminal(),
+        },
     );
     ExitCode::from(status.code())
 }

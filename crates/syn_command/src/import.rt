@@ -13,7 +13,7 @@ ghost use Rattle.syn_command.specs.Imports.{IsImported, IsPlanRefusal, LeavesImp
 
 use crate::error::CommandError;
 use crate::planning::plan_import;
-use crate::progress_mode::{ProgressMode, lines_of};
+use crate::teller::{Teller, lines_of};
 use std::alloc::Global;
 use std::io::Write;
 use syn_cli::OnStranger;
@@ -35,8 +35,7 @@ pub struct Import<'a> {
 
 /// Makes what is at and below the path what stands in the folder, by edits of the user, all of them
 /// or none. Where it is that already, no edit is made. Where something that can stand in no replica
-/// is skipped, the replica keeps what it has there. What is skipped is told to `errors`, and then
-/// each edit where `progress` says so.
+/// is skipped, the replica keeps what it has there. What is skipped is told, and then each edit.
 ///
 /// Refused 7 where something can stand in no replica and is not skipped, and as `import_part` is.
 /// The disk comes back.
@@ -45,8 +44,7 @@ pub fn import_folder<D: Disk, F: Folder, E: Write>(
     replica: Replica<D>,
     import: Import<'_>,
     folder: &F,
-    progress: ProgressMode,
-    errors: &mut E,
+    teller: &mut Teller<'_, E>,
 ) -> Result<Replica<D>, (CommandError, D)>
     ensures known { import.entry.on_stranger ≡ OnStranger.Refuse
         → OnOk result (F.strangers folder.now ≡ []) }
@@ -82,17 +80,9 @@ pub fn import_folder<D: Disk, F: Folder, E: Write>(
         import.on_stranger,
         replica.tree(),
         import.path,
-        errors,
+        teller.errors,
     ) {
-        Ok(part) => import_part(
-            alloc,
-            replica,
-            import.user,
-            import.path,
-            &part,
-            progress,
-            errors,
-        ),
+        Ok(part) => import_part(alloc, replica, import.user, import.path, &part, teller),
         Err(error) => Err((CommandError::from(error), replica.into_disk())),
     }
 }
@@ -126,11 +116,10 @@ pub fn part_of<F: Folder, E: Write>(
 }
 
 /// Puts the tree in the place of what is at and below the path, by edits of the user, all of them
-/// or none. Where it is there already, no edit is made. Each edit is told to `errors`, where
-/// `progress` says so, once they are made.
+/// or none. Where it is there already, no edit is made. Each edit is told, once they are made.
 ///
 /// Refused 2 where the path's parent is no directory, and 7 where the replica would pass a limit:
-/// that limit is told to `errors`. Else it is refused as the replica refuses edits, or the
+/// that limit is told, too. Else it is refused as the replica refuses edits, or the
 /// checkpoint that makes room for them where there may be too little. The disk comes back.
 pub fn import_part<D: Disk, E: Write>(
     alloc: Global,
@@ -138,8 +127,7 @@ pub fn import_part<D: Disk, E: Write>(
     user: u32,
     path: &Path,
     part: &Tree,
-    progress: ProgressMode,
-    errors: &mut E,
+    teller: &mut Teller<'_, E>,
 ) -> Result<Replica<D>, (CommandError, D)>
     ensures part { (history : History) → Stands replica history
         → IfOk result (λ new. subtree (tree_shown new) path.now ≡ part.now) }
@@ -167,8 +155,8 @@ pub fn import_part<D: Disk, E: Write>(
         → IsPlanRefusal (tree_shown replica) path.now part.now refused.0) }
     ensures refusals { IfErr result (λ refused. IsOfFolder refused.0 ⊎ IsOfEdits refused.0) }
 {
-    match plan_import(alloc, replica.tree(), path, part, errors) {
-        Ok(edits) => make_edits(alloc, replica, user, edits, progress, errors),
+    match plan_import(alloc, replica.tree(), path, part, teller.errors) {
+        Ok(edits) => make_edits(alloc, replica, user, edits, teller),
         Err(error) => Err((CommandError::from(error), replica.into_disk())),
     }
 }
@@ -179,8 +167,7 @@ fn make_edits<D: Disk, E: Write>(
     replica: Replica<D>,
     user: u32,
     edits: Vec<Edit>,
-    progress: ProgressMode,
-    errors: &mut E,
+    teller: &mut Teller<'_, E>,
 ) -> Result<Replica<D>, (CommandError, D)>
     ensures made { (history : History) → Stands replica history
         → IfOk result (λ new. Stands new (history ++ map (event_by user) edits.items)) }
@@ -192,13 +179,13 @@ fn make_edits<D: Disk, E: Write>(
     ensures refused { IfErr result (λ refused. ¬ IsOfFolder refused.0) }
     ensures refusals { IfErr result (λ refused. IsOfEdits refused.0) }
 {
-    let lines = match lines_of(alloc, &edits, progress) {
+    let lines = match lines_of(alloc, &edits, teller.verbosity) {
         Ok(lines) => lines,
         Err(error) => return Err((CommandError::from(error), replica.into_disk())),
     };
     match replica.edit_all_with_room(alloc, user, edits) {
         Ok(edited) => {
-            let _ = errors.write_all(lines.as_bytes());
+            let _ = teller.errors.write_all(lines.as_bytes());
             Ok(edited)
         }
         Err((error, disk)) => Err((CommandError::from(error), disk)),

@@ -2,8 +2,8 @@
 ghost use Rattle.std.specs.Prelude.{◌≡◌};
 ghost use Rattle.syn_command.specs.Progresses.{writer_in};
 
-use crate::progress_mode::CLEARED;
 use crate::session_lines::{carried_line, conflict_line, count_line, marked_line, refused_line};
+use crate::teller::CLEARED;
 use std::alloc::{AllocError, Global};
 use std::io::{self, Write};
 use syn_image::Kept;

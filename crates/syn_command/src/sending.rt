@@ -5,7 +5,7 @@ ghost use Rattle.syn_tree.specs.Edits.{edit_of};
 ghost use Rattle.syn_user.specs.States.{state_of};
 
 use crate::error::CommandError;
-use crate::progress_mode::{ProgressMode, edit_line};
+use crate::teller::{Teller, edit_line};
 use std::alloc::Global;
 use std::io::{Read, Write};
 use syn_refusal::Refusal;
@@ -13,8 +13,7 @@ use syn_tree::Edit;
 use syn_user::UserConnection;
 
 /// Asks a server for the edits, as edits of the user, and answers the position after them. The
-/// first is asked of a replica that has the position. As much of the edits as `progress` says is
-/// told to `errors`.
+/// first is asked of a replica that has the position. Each is told as it is made.
 ///
 /// Refused as the server refuses an edit: then those before it stand. Refused 13 where the answer
 /// to one shows that somebody else edits the replica: then that one stands, too.
@@ -24,8 +23,7 @@ pub fn send_edits<R: Read, W: Write, E: Write>(
     user: u32,
     position: u64,
     edits: Vec<Edit>,
-    progress: ProgressMode,
-    errors: &mut E,
+    teller: &mut Teller<'_, E>,
 ) -> Result<u64, CommandError>
     ensures last { IfOk result (λ last. last ≡ position + length edits.items) }
     ensures made { OnOk result (AreMadeInTurn user
@@ -35,8 +33,8 @@ pub fn send_edits<R: Read, W: Write, E: Write>(
         (state_of R.remaining W.contents connection.old) position (map edit_of edits.items)
         (state_of R.remaining W.contents connection.new)) }
 {
-    let sent = send_each(alloc, connection, user, position, edits, progress, errors);
-    progress.end(errors);
+    let sent = send_each(alloc, connection, user, position, edits, teller);
+    teller.end();
     sent
 }
 
@@ -47,8 +45,7 @@ fn send_each<R: Read, W: Write, E: Write>(
     user: u32,
     position: u64,
     edits: Vec<Edit>,
-    progress: ProgressMode,
-    errors: &mut E,
+    teller: &mut Teller<'_, E>,
 ) -> Result<u64, CommandError>
     ensures last { IfOk result (λ last. last ≡ position + length edits.items) }
     ensures made { OnOk result (AreMadeInTurn user
@@ -65,7 +62,7 @@ fn send_each<R: Read, W: Write, E: Write>(
         let line = edit_line(alloc, &edit)?;
         let made = connection.edit(alloc, user, edit)?;
         count = count.saturating_add(1);
-        progress.tell(&line, count, all, "edits are made", errors);
+        teller.tell(&line, count, all, "edits are made");
         last = next_position(last, made)?;
     }
     Ok(last)

@@ -13,8 +13,7 @@ use std::net::{Net, TcpStream};
 use std::thread::Threads;
 use syn_cli::{ExportCommand, ImportCommand, ReplicaLocation};
 use syn_command::{
-    CommandError, Import, ProgressMode, export_part, import_folder, part_of, plan_import,
-    send_edits,
+    CommandError, Import, Teller, export_part, import_folder, part_of, plan_import, send_edits,
 };
 use syn_daemon::reach;
 use syn_folder::{ExportedFolder, Folder, FolderError, SystemFolder};
@@ -56,8 +55,7 @@ where
 }
 
 /// Makes what is at the line's path what stands in its folder, by edits of its user, and answers
-/// the new position. As much of the edits as `progress` says is told to `errors`, and what is
-/// skipped.
+/// the new position. The edits are told, and what is skipped.
 ///
 /// A text that names no path is refused. Else it is refused as the folder is read, as an opening
 /// is, 7 where something stands in the folder that can stand in no replica and nothing is to be
@@ -70,8 +68,7 @@ pub fn import<H: Net<Stream = TcpStream>, N: NamedDisks, F: Files, E: Write>(
     disks: &N,
     files: &F,
     command: &ImportCommand<'_>,
-    progress: ProgressMode,
-    errors: &mut E,
+    teller: &mut Teller<'_, E>,
 ) -> Result<u64, CommandError>
     ensures { IfSome command.now.path (λ path.
         ((at : ModelPath) → ¬ NamesPath path.now at) → IsErrAnd result IsOfPath) }
@@ -86,13 +83,13 @@ pub fn import<H: Net<Stream = TcpStream>, N: NamedDisks, F: Files, E: Write>(
     match command.location {
         ReplicaLocation::File(name) => {
             let replica = replica_in(alloc, disks, name)?;
-            let imported = import_folder(alloc, replica, asked, &folder, progress, errors);
+            let imported = import_folder(alloc, replica, asked, &folder, teller);
             let replica = imported.map_err(|(error, _)| error)?;
             Ok(replica.position())
         }
         ReplicaLocation::Served(address) => {
             let stream = reach(rt, address)?;
-            import_over(alloc, &stream, asked, &folder, progress, errors)
+            import_over(alloc, &stream, asked, &folder, teller)
         }
     }
 }
@@ -116,22 +113,20 @@ fn import_over<F: Folder, E: Write>(
     stream: &TcpStream,
     asked: Import<'_>,
     folder: &F,
-    progress: ProgressMode,
-    errors: &mut E,
+    teller: &mut Teller<'_, E>,
 ) -> Result<u64, CommandError> {
     let (position, tree) = tree_over(alloc, stream)?;
-    let part = part_of(alloc, folder, asked.on_stranger, &tree, asked.path, errors)?;
-    let edits = plan_import(alloc, &tree, asked.path, &part, errors)?;
-    let mut connection = UserConnection::new(alloc, stream, stream);
-    send_edits(
+    let part = part_of(
         alloc,
-        &mut connection,
-        asked.user,
-        position,
-        edits,
-        progress,
-        errors,
-    )
+        folder,
+        asked.on_stranger,
+        &tree,
+        asked.path,
+        teller.errors,
+    )?;
+    let edits = plan_import(alloc, &tree, asked.path, &part, teller.errors)?;
+    let mut connection = UserConnection::new(alloc, stream, stream);
+    send_edits(alloc, &mut connection, asked.user, position, edits, teller)
 }
 
 /// Writes what the directory at the path of the tree has into the line's folder.

@@ -9,7 +9,7 @@ use std::net::{Net, TcpListener, TcpStream};
 use std::thread;
 use std::time::{Clock, Duration};
 use syn_cli::KeepCommand;
-use syn_command::{CommandError, Outcome, ProgressMode};
+use syn_command::{CommandError, Outcome, Teller};
 use syn_coordinator::Coordinator;
 use syn_daemon::{reach, sync};
 use syn_disk::Disk;
@@ -35,9 +35,8 @@ pub fn keep_servers<H, N, O, E>(
     alloc: Global,
     disks: &N,
     command: &KeepCommand<'_>,
-    progress: ProgressMode,
     output: &mut O,
-    errors: &mut E,
+    teller: &mut Teller<'_, E>,
 ) -> Result<Outcome, CommandError>
 where
     H: Net<Listener = TcpListener, Stream = TcpStream> + Clock,
@@ -47,17 +46,11 @@ where
 {
     let archive = archive_in(alloc, disks, command.archive)?;
     let coordinator = Coordinator::new(alloc, archive);
-    if !progress.each {
-        return keep(
-            rt,
-            alloc,
-            coordinator,
-            command,
-            &mut UnreachedOnly(errors),
-            output,
-        );
+    if !teller.verbosity.each {
+        let mut watch = UnreachedOnly(&mut *teller.errors);
+        return keep(rt, alloc, coordinator, command, &mut watch, output);
     }
-    let mut watch = progress_for(alloc, errors, progress);
+    let mut watch = progress_for(alloc, teller);
     keep(rt, alloc, coordinator, command, &mut watch, output)
 }
 
@@ -211,51 +204,136 @@ where
         left: Watched::new(command.left),
         right: Watched::new(command.right),
     };
-    let ended = keep_sides(
+    let mut keeper = Keeper {
         rt,
         alloc,
-        &mut coordinator,
-        &mut sides,
         command,
         watch,
         output,
-    );
+        since: SinceLastSession {
+            positions: None,
+            unfinished: Some(Unfinished::nothing(alloc)),
+            is_told: false,
+        },
+    };
+    let ended = keeper.keep(&mut coordinator, &mut sides);
+    drop(keeper);
     drop(sides);
     drop(coordinator);
     ended?;
     Ok(Outcome::Done)
 }
 
-/// Looks at both sides every so many seconds, and runs a session where one has changed.
-fn keep_sides<H, D, V, O>(
-    rt: &H,
+/// What keeps two servers the same: what it runs with, who watches its sessions and where their
+/// reports go, and what it knows since the last one.
+#[derive(Drop)]
+struct Keeper<'a, H, V, O> {
+    rt: &'a H,
     alloc: Global,
-    coordinator: &mut Coordinator<D>,
-    sides: &mut Sides<'_>,
-    command: &KeepCommand<'_>,
-    watch: &mut V,
-    output: &mut O,
-) -> Result<(), CommandError>
+    command: &'a KeepCommand<'a>,
+    watch: &'a mut V,
+    output: &'a mut O,
+    since: SinceLastSession,
+}
+
+impl<H, V, O> Keeper<'_, H, V, O>
 where
     H: Net<Listener = TcpListener, Stream = TcpStream> + Clock,
-    D: Disk,
     V: SessionWatch,
     O: Write,
 {
-    let mut since = SinceLastSession {
-        positions: None,
-        unfinished: Some(Unfinished::nothing(alloc)),
-        is_told: false,
-    };
-    for _round in 0..u64::MAX {
-        if let Some(found) = positions(rt, alloc, sides, watch, &mut since) {
-            if since.positions != Some(found) {
-                session(rt, alloc, coordinator, command, watch, output, &mut since)?;
+    /// Looks at both sides every so many seconds, and runs a session where one has changed.
+    fn keep<D: Disk>(
+        &mut self,
+        coordinator: &mut Coordinator<D>,
+        sides: &mut Sides<'_>,
+    ) -> Result<(), CommandError> {
+        for _round in 0..u64::MAX {
+            if let Some(found) = self.positions(sides) {
+                if self.since.positions != Some(found) {
+                    self.run_session(coordinator)?;
+                }
             }
+            thread::sleep(self.rt, Duration::from_secs(self.command.seconds.max(1)));
         }
-        thread::sleep(rt, Duration::from_secs(command.seconds.max(1)));
+        Ok(())
     }
-    Ok(())
+
+    /// The positions of both sides. A side that cannot be reached is told, unless that was told
+    /// since both were reached last.
+    fn positions(&mut self, sides: &mut Sides<'_>) -> Option<(u64, u64)> {
+        let (side, error) = match sides.left.position(self.rt, self.alloc) {
+            Ok(left) => match sides.right.position(self.rt, self.alloc) {
+                Ok(right) => {
+                    self.since.is_told = false;
+                    return Some((left, right));
+                }
+                Err(error) => (Side::Right, error),
+            },
+            Err(error) => (Side::Left, error),
+        };
+        if !self.since.is_told {
+            self.watch.unreached(side, &error);
+            self.since.is_told = true;
+        }
+        None
+    }
+
+    /// Runs one session, prints its report where that says something new, and keeps what is then
+    /// known. Where a side cannot be reached, `sync` has told it, and the next look tries again; a
+    /// connection that is lost in the session ends it 25.
+    fn run_session<D: Disk>(
+        &mut self,
+        coordinator: &mut Coordinator<D>,
+    ) -> Result<(), CommandError> {
+        let mut counter = PositionCounter {
+            watch: &mut *self.watch,
+            left: 0,
+            right: 0,
+        };
+        let went = sync(
+            self.rt,
+            self.alloc,
+            coordinator,
+            self.command.left,
+            self.command.right,
+            self.command.preference,
+            &mut counter,
+        );
+        let after = (counter.left, counter.right);
+        match went {
+            Err(Refusal::Device) if !coordinator.archive().is_halted() => {
+                self.since.positions = None;
+                self.since.is_told = true;
+                return Ok(());
+            }
+            went => went?,
+        }
+        let report = reported(coordinator)?;
+        self.watch.ended(report);
+        self.print_news(report)?;
+        self.since = SinceLastSession {
+            positions: (report.end == End::Complete).then_some(after),
+            unfinished: Unfinished::left_by(self.alloc, report).ok(),
+            is_told: false,
+        };
+        shorten_archive(self.alloc, coordinator);
+        Ok(())
+    }
+
+    /// Prints the report of a session that did something, or left other things undone than the one
+    /// before. Where it is not known what that one left, the report is printed, too.
+    fn print_news(&mut self, report: &Report) -> Result<(), CommandError> {
+        let leaves_same = match &self.since.unfinished {
+            Some(unfinished) => unfinished.is_left_by(report),
+            None => false,
+        };
+        if report.done > 0 || report.marked > 0 || !leaves_same {
+            show_report(self.alloc, report, self.output)?;
+            self.output.flush()?;
+        }
+        Ok(())
+    }
 }
 
 /// Both sides, as they are looked at.
@@ -302,102 +380,4 @@ impl<'a> Watched<'a> {
             Err(_) => Err(io::Error::from(ErrorKind::ConnectionAborted)),
         }
     }
-}
-
-/// The positions of both sides. A side that cannot be reached is told, unless that was told since
-/// both were reached last.
-fn positions<H: Net<Stream = TcpStream>, V: SessionWatch>(
-    rt: &H,
-    alloc: Global,
-    sides: &mut Sides<'_>,
-    watch: &mut V,
-    since: &mut SinceLastSession,
-) -> Option<(u64, u64)> {
-    let (side, error) = match sides.left.position(rt, alloc) {
-        Ok(left) => match sides.right.position(rt, alloc) {
-            Ok(right) => {
-                since.is_told = false;
-                return Some((left, right));
-            }
-            Err(error) => (Side::Right, error),
-        },
-        Err(error) => (Side::Left, error),
-    };
-    if !since.is_told {
-        watch.unreached(side, &error);
-        since.is_told = true;
-    }
-    None
-}
-
-/// Runs one session, prints its report where that says something new, and keeps what is then known.
-/// Where a side cannot be reached, `sync` has told it, and the next look tries again; a connection
-/// that is lost in the session ends it 25.
-fn session<H, D, V, O>(
-    rt: &H,
-    alloc: Global,
-    coordinator: &mut Coordinator<D>,
-    command: &KeepCommand<'_>,
-    watch: &mut V,
-    output: &mut O,
-    since: &mut SinceLastSession,
-) -> Result<(), CommandError>
-where
-    H: Net<Listener = TcpListener, Stream = TcpStream> + Clock,
-    D: Disk,
-    V: SessionWatch,
-    O: Write,
-{
-    let mut counter = PositionCounter {
-        watch: &mut *watch,
-        left: 0,
-        right: 0,
-    };
-    let went = sync(
-        rt,
-        alloc,
-        coordinator,
-        command.left,
-        command.right,
-        command.preference,
-        &mut counter,
-    );
-    let after = (counter.left, counter.right);
-    match went {
-        Err(Refusal::Device) if !coordinator.archive().is_halted() => {
-            since.positions = None;
-            since.is_told = true;
-            return Ok(());
-        }
-        went => went?,
-    }
-    let report = reported(coordinator)?;
-    watch.ended(report);
-    print_news(alloc, report, &since.unfinished, output)?;
-    *since = SinceLastSession {
-        positions: (report.end == End::Complete).then_some(after),
-        unfinished: Unfinished::left_by(alloc, report).ok(),
-        is_told: false,
-    };
-    shorten_archive(alloc, coordinator);
-    Ok(())
-}
-
-/// Prints the report of a session that did something, or left other things undone than the one
-/// before. Where it is not known what that one left, the report is printed, too.
-fn print_news<O: Write>(
-    alloc: Global,
-    report: &Report,
-    before: &Option<Unfinished>,
-    output: &mut O,
-) -> Result<(), CommandError> {
-    let leaves_same = match before {
-        Some(unfinished) => unfinished.is_left_by(report),
-        None => false,
-    };
-    if report.done > 0 || report.marked > 0 || !leaves_same {
-        show_report(alloc, report, output)?;
-        output.flush()?;
-    }
-    Ok(())
 }

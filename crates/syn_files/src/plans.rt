@@ -1,7 +1,7 @@
 //! What a session of images that have names, or of served replicas, would do.
 
 use crate::named::{NamedDisks, archive_to_read};
-use crate::side_by_side::{Images, images_in};
+use crate::side_by_side::{Images, images_on};
 use std::alloc::Global;
 use std::io::Write;
 use std::net::{Net, TcpStream};
@@ -48,7 +48,10 @@ pub fn print_plan<H: Net<Stream = TcpStream> + Threads + Sync, N: NamedDisks, O:
             if left == right {
                 return Err(CommandError::Open(OpenError::Busy));
             }
-            let images = images_in(rt, alloc, disks, left, right, archive, Access::Read)?;
+            let left = disks.lock(left, Access::Read);
+            let right = disks.lock(right, Access::Read);
+            let archive = disks.lock(archive, Access::Read);
+            let images = images_on(rt, alloc, left, right, archive)?;
             print_plan_of_images(alloc, &images, preference, output)
         }
     }

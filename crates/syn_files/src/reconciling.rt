@@ -7,7 +7,7 @@ use std::fs::Files;
 use std::io::{self, ErrorKind, Write};
 use syn_archive::Archive;
 use syn_cli::ReconcileCommand;
-use syn_command::{CommandError, Outcome, ProgressMode, carried_line, marked_line};
+use syn_command::{CommandError, Outcome, Teller, carried_line, marked_line};
 use syn_disk::{Access, Disk, MemDisk, OpenError};
 use syn_folder::{EditedFolder, SystemFolder};
 use syn_path::Side;
@@ -17,9 +17,8 @@ use syn_reconcile::{
 use syn_replica::Replica;
 
 /// Makes the line's folder and its replica the same, by what both last agreed on, prints a report,
-/// and answers what it came to. What no replica can have is told to `errors`, and left alone on
-/// both sides; each item that is carried or marked is told, too, and how many are settled, where
-/// `progress` says so.
+/// and answers what it came to. What no replica can have is told, and left alone on both sides;
+/// each item that is carried or marked is told, too, and how many are settled.
 ///
 /// Refused as the replica and the archive are opened, 9 and 13 as the folder is read, and as
 /// `reconcile` is: what was carried before stands then, and the same line goes on.
@@ -28,17 +27,16 @@ pub fn reconcile_named<N: NamedDisks, F: Files, O: Write, E: Write>(
     disks: &N,
     files: &F,
     command: &ReconcileCommand<'_>,
-    progress: ProgressMode,
     output: &mut O,
-    errors: &mut E,
+    teller: &mut Teller<'_, E>,
 ) -> Result<Outcome, CommandError> {
     let name = archive_name(alloc, command.file, command.archive)?;
     let replica = replica_in(alloc, disks, command.file)?;
     let mut archive = archive_or_new(alloc, disks, &name, replica.pair())?;
     let mut folder = SystemFolder::open_or_missing(alloc, files, command.folder)?;
-    tell_strangers(&folder, errors);
+    tell_strangers(&folder, teller.errors);
     let (folder, archive) = (&mut folder, &mut archive);
-    let report = reconcile_opened(alloc, folder, replica, archive, command, progress, errors)?;
+    let report = reconcile_opened(alloc, folder, replica, archive, command, teller)?;
     print_report(&report, output)?;
     Ok(outcome_of(&report))
 }
@@ -50,15 +48,13 @@ fn reconcile_opened<F: EditedFolder, R: Disk + Drop, A: Disk, E: Write>(
     replica: Replica<R>,
     archive: &mut Archive<A>,
     command: &ReconcileCommand<'_>,
-    progress: ProgressMode,
-    errors: &mut E,
+    teller: &mut Teller<'_, E>,
 ) -> Result<Report, CommandError> {
     let mut watch = ItemsTold {
         alloc,
-        progress,
         planned: 0,
         settled: 0,
-        errors: &mut *errors,
+        teller: &mut *teller,
     };
     let settled = reconcile(
         alloc,
@@ -70,10 +66,10 @@ fn reconcile_opened<F: EditedFolder, R: Disk + Drop, A: Disk, E: Write>(
         when_empty(command),
         &mut watch,
     );
-    progress.end(errors);
+    teller.end();
     match settled {
         Ok((_, report)) => Ok(report),
-        Err((error, _)) => Err(command_error_of(error, command, errors)),
+        Err((error, _)) => Err(command_error_of(error, command, teller.errors)),
     }
 }
 
@@ -94,49 +90,47 @@ pub fn plan_named<N: NamedDisks, F: Files, O: Write, E: Write>(
     let replica = replica_to_read(alloc, disks, command.file)?;
     let folder = SystemFolder::open_or_missing(alloc, files, command.folder)?;
     tell_strangers(&folder, errors);
-    plan_with(
-        alloc, disks, &name, &folder, &replica, command, output, errors,
-    )
-}
-
-/// Prints what is to be done of the folder and the replica, with the archive of that name, or with
-/// an empty one where none is there.
-fn plan_with<N: NamedDisks, F: EditedFolder, R: Disk, O: Write, E: Write>(
-    alloc: Global,
-    disks: &N,
-    name: &str,
-    folder: &F,
-    replica: &Replica<R>,
-    command: &ReconcileCommand<'_>,
-    output: &mut O,
-    errors: &mut E,
-) -> Result<Outcome, CommandError> {
-    match disks.lock(name, Access::Read) {
+    let asked = PlanOfFolder {
+        folder: &folder,
+        replica: &replica,
+        command,
+    };
+    match disks.lock(&name, Access::Read) {
         Err(error) if is_missing(&error) => {
             let archive = empty_archive(alloc, replica.pair())?;
-            print_plan_of_folder(alloc, folder, replica, &archive, command, output, errors)
+            asked.print(alloc, &archive, output, errors)
         }
-        locked => {
-            let archive = archive_on(alloc, locked)?;
-            print_plan_of_folder(alloc, folder, replica, &archive, command, output, errors)
-        }
+        locked => asked.print(alloc, &archive_on(alloc, locked)?, output, errors),
     }
 }
 
-/// Prints what is to be done of the folder, the replica and the archive.
-fn print_plan_of_folder<F: EditedFolder, R: Disk, A: Disk, O: Write, E: Write>(
-    alloc: Global,
-    folder: &F,
-    replica: &Replica<R>,
-    archive: &Archive<A>,
-    command: &ReconcileCommand<'_>,
-    output: &mut O,
-    errors: &mut E,
-) -> Result<Outcome, CommandError> {
-    let (preference, when_empty) = (command.preference, when_empty(command));
-    match plan(alloc, folder, replica, archive, preference, when_empty) {
-        Ok(compared) => print_compared(alloc, &compared, archive.tree(), output),
-        Err(error) => Err(command_error_of(error, command, errors)),
+/// A folder and a replica whose plan a line asks for.
+#[derive(Drop)]
+struct PlanOfFolder<'a, F, R: Disk> {
+    folder: &'a F,
+    replica: &'a Replica<R>,
+    command: &'a ReconcileCommand<'a>,
+}
+
+impl<F: EditedFolder, R: Disk> PlanOfFolder<'_, F, R> {
+    /// Prints what is to be done of the folder and the replica, by what the archive has.
+    fn print<A: Disk, O: Write, E: Write>(
+        &self,
+        alloc: Global,
+        archive: &Archive<A>,
+        output: &mut O,
+        errors: &mut E,
+    ) -> Result<Outcome, CommandError> {
+        let PlanOfFolder {
+            folder,
+            replica,
+            command,
+        } = self;
+        let (preference, when_empty) = (command.preference, when_empty(command));
+        match plan(alloc, *folder, replica, archive, preference, when_empty) {
+            Ok(compared) => print_compared(alloc, &compared, archive.tree(), output),
+            Err(error) => Err(command_error_of(error, command, errors)),
+        }
     }
 }
 
@@ -202,15 +196,14 @@ fn tell_strangers<F: EditedFolder, E: Write>(folder: &F, errors: &mut E) {
 
 /// Tells each item that was carried or marked, and counts all. What finds no memory is left out.
 #[derive(Drop)]
-struct ItemsTold<'e, E> {
+struct ItemsTold<'t, 'e, E> {
     alloc: Global,
-    progress: ProgressMode,
     planned: usize,
     settled: usize,
-    errors: &'e mut E,
+    teller: &'t mut Teller<'e, E>,
 }
 
-impl<E: Write> ItemWatch for ItemsTold<'_, E> {
+impl<E: Write> ItemWatch for ItemsTold<'_, '_, E> {
     fn planned(&mut self, items: usize) {
         self.planned = items;
     }
@@ -221,8 +214,7 @@ impl<E: Write> ItemWatch for ItemsTold<'_, E> {
             return;
         };
         let (count, all) = (self.settled, self.planned);
-        self.progress
-            .tell(&line, count, all, "items are settled", self.errors);
+        self.teller.tell(&line, count, all, "items are settled");
     }
 }
 

@@ -1,7 +1,7 @@
 //! Sessions of images that have names, and of served replicas.
 
 use crate::named::{NamedDisks, archive_in};
-use crate::side_by_side::{Images, images_in};
+use crate::side_by_side::{Images, images_on};
 use crate::upkeep::{shorten, shorten_archive};
 use log::sink::Discard;
 use log::{LevelFilter, Logged};
@@ -13,7 +13,7 @@ use std::thread::Threads;
 use std::time::Clock;
 use syn_archive::Archive;
 use syn_cli::{Between, Pairing};
-use syn_command::{CommandError, Outcome, ProgressMode, SessionProgress, outcome_of};
+use syn_command::{CommandError, Outcome, SessionProgress, Teller, outcome_of};
 use syn_coordinator::Coordinator;
 use syn_daemon::{OpenGates, run, sync};
 use syn_disk::{Access, Disk};
@@ -26,7 +26,7 @@ use syn_shared::SharedReplica;
 use syn_sync::{SessionWatch, Unwatched};
 
 /// Runs a session of the replicas and their archive, prints its report, and answers what it came
-/// to. Each item is told to `errors` where `progress` says so, and with the items their counts.
+/// to. Each item is told, and with the items their counts, as the teller is to.
 ///
 /// Refused as an opening of a disk is: of files left first and the archive last, and of servers the
 /// archive before an address is tried. Refused 9 where an address cannot be reached, and as the
@@ -36,9 +36,8 @@ pub fn run_session<H, N, O, E>(
     alloc: Global,
     disks: &N,
     pairing: Pairing<'_>,
-    progress: ProgressMode,
     output: &mut O,
-    errors: &mut E,
+    teller: &mut Teller<'_, E>,
 ) -> Result<Outcome, CommandError>
 where
     H: Net<Listener = TcpListener, Stream = TcpStream> + Threads + Wait + Clock + Copy + Sync,
@@ -46,28 +45,27 @@ where
     O: Write,
     E: Write,
 {
-    if !progress.each {
-        return drive(rt, alloc, disks, pairing, &mut Unwatched, output);
+    if !teller.verbosity.each {
+        return run_watched(rt, alloc, disks, pairing, &mut Unwatched, output);
     }
-    let mut watch = progress_for(alloc, errors, progress);
-    drive(rt, alloc, disks, pairing, &mut watch, output)
+    let mut watch = progress_for(alloc, teller);
+    run_watched(rt, alloc, disks, pairing, &mut watch, output)
 }
 
 /// Tells each item of a session, and their counts where these are wanted.
-pub(crate) fn progress_for<E: Write>(
+pub(crate) fn progress_for<'e, E: Write>(
     alloc: Global,
-    errors: E,
-    progress: ProgressMode,
-) -> SessionProgress<E> {
-    if progress.counts {
-        SessionProgress::with_counts(alloc, errors)
+    teller: &'e mut Teller<'_, E>,
+) -> SessionProgress<&'e mut E> {
+    if teller.verbosity.counts {
+        SessionProgress::with_counts(alloc, &mut *teller.errors)
     } else {
-        SessionProgress::new(alloc, errors)
+        SessionProgress::new(alloc, &mut *teller.errors)
     }
 }
 
-/// Runs a session of the replicas and their archive, and prints its report.
-fn drive<H, N, V, O>(
+/// Runs a session of the replicas and their archive that is watched, and prints its report.
+fn run_watched<H, N, V, O>(
     rt: &H,
     alloc: Global,
     disks: &N,
@@ -81,116 +79,124 @@ where
     V: SessionWatch,
     O: Write,
 {
+    let preference = pairing.preference;
+    let mut run = WatchedRun {
+        rt,
+        alloc,
+        preference,
+        watch,
+        output,
+    };
     match pairing.between {
         Between::Servers { left, right } => {
             let archive = archive_in(alloc, disks, pairing.archive)?;
-            drive_served(
-                rt,
-                alloc,
-                left,
-                right,
-                archive,
-                pairing.preference,
-                watch,
-                output,
-            )
+            run.between_servers(left, right, archive)
         }
         Between::Files { left, right } => {
-            let name = pairing.archive;
-            let images = images_in(rt, alloc, disks, left, right, name, Access::Write)?;
-            drive_opened(rt, alloc, images, pairing.preference, watch, output)
+            let left = disks.lock(left, Access::Write);
+            let right = disks.lock(right, Access::Write);
+            let archive = disks.lock(pairing.archive, Access::Write);
+            run.between_images(images_on(rt, alloc, left, right, archive)?)
         }
     }
 }
 
-/// Runs a session between the replicas that are served at these addresses.
-fn drive_served<H, D, V, O>(
-    rt: &H,
+/// The run of one session: what it runs with, who watches it, and where its report goes.
+#[derive(Drop)]
+struct WatchedRun<'a, H, V, O> {
+    rt: &'a H,
     alloc: Global,
-    left: &str,
-    right: &str,
-    archive: Archive<D>,
     preference: Option<Side>,
-    watch: &mut V,
-    output: &mut O,
-) -> Result<Outcome, CommandError>
-where
-    H: Net<Listener = TcpListener, Stream = TcpStream> + Clock,
-    D: Disk + Drop,
-    V: SessionWatch,
-    O: Write,
-{
-    let mut coordinator = Coordinator::new(alloc, archive);
-    let went = sync(rt, alloc, &mut coordinator, left, right, preference, watch);
-    let told = print_session(alloc, went, &coordinator, watch, output);
-    shorten_archive(alloc, &mut coordinator);
-    drop(coordinator);
-    told
+    watch: &'a mut V,
+    output: &'a mut O,
 }
 
-/// Runs a session between replicas that are open.
-fn drive_opened<H, D, V, O>(
-    rt: &H,
-    alloc: Global,
-    images: Images<D>,
-    preference: Option<Side>,
-    watch: &mut V,
-    output: &mut O,
-) -> Result<Outcome, CommandError>
+impl<H, V, O> WatchedRun<'_, H, V, O>
 where
     H: Net<Listener = TcpListener, Stream = TcpStream> + Threads + Wait + Clock + Copy + Sync,
-    D: Disk + Drop + Send,
     V: SessionWatch,
     O: Write,
 {
-    let Images {
-        left,
-        right,
-        archive,
-    } = images;
-    let left = shared(alloc, left)?;
-    let right = shared(alloc, right)?;
-    drive_shared(rt, alloc, &left, &right, archive, preference, watch, output)
-}
+    /// Runs it between the replicas that are served at these addresses.
+    fn between_servers<D: Disk + Drop>(
+        &mut self,
+        left: &str,
+        right: &str,
+        archive: Archive<D>,
+    ) -> Result<Outcome, CommandError> {
+        let mut coordinator = Coordinator::new(self.alloc, archive);
+        let went = sync(
+            self.rt,
+            self.alloc,
+            &mut coordinator,
+            left,
+            right,
+            self.preference,
+            self.watch,
+        );
+        let told = self.print(went, &coordinator);
+        shorten_archive(self.alloc, &mut coordinator);
+        drop(coordinator);
+        told
+    }
 
-/// Serves both replicas on loopback ports as long as a session between them runs. The servers log
-/// nothing.
-fn drive_shared<H, D, V, O>(
-    rt: &H,
-    alloc: Global,
-    left: &SharedReplica<D>,
-    right: &SharedReplica<D>,
-    archive: Archive<D>,
-    preference: Option<Side>,
-    watch: &mut V,
-    output: &mut O,
-) -> Result<Outcome, CommandError>
-where
-    H: Net<Listener = TcpListener, Stream = TcpStream> + Threads + Wait + Clock + Copy + Sync,
-    D: Disk + Drop + Send,
-    V: SessionWatch,
-    O: Write,
-{
-    let quiet = Logged::new(*rt, LevelFilter::Off, Discard);
-    let gates = OpenGates;
-    let coordinator = Coordinator::new(alloc, archive);
-    let (mut coordinator, went) = run(
-        &quiet,
-        alloc,
-        left,
-        right,
-        coordinator,
-        &gates,
-        &gates,
-        preference,
-        watch,
-    );
-    let told = print_session(alloc, went, &coordinator, watch, output);
-    shorten(alloc, left);
-    shorten(alloc, right);
-    shorten_archive(alloc, &mut coordinator);
-    drop(coordinator);
-    told
+    /// Runs it between replicas that are open.
+    fn between_images<D: Disk + Drop + Send>(
+        &mut self,
+        images: Images<D>,
+    ) -> Result<Outcome, CommandError> {
+        let Images {
+            left,
+            right,
+            archive,
+        } = images;
+        let left = shared(self.alloc, left)?;
+        let right = shared(self.alloc, right)?;
+        self.between_shared(&left, &right, archive)
+    }
+
+    /// Serves both replicas on loopback ports as long as the session between them runs. The servers
+    /// log nothing.
+    fn between_shared<D: Disk + Drop + Send>(
+        &mut self,
+        left: &SharedReplica<D>,
+        right: &SharedReplica<D>,
+        archive: Archive<D>,
+    ) -> Result<Outcome, CommandError> {
+        let quiet = Logged::new(*self.rt, LevelFilter::Off, Discard);
+        let gates = OpenGates;
+        let coordinator = Coordinator::new(self.alloc, archive);
+        let (mut coordinator, went) = run(
+            &quiet,
+            self.alloc,
+            left,
+            right,
+            coordinator,
+            &gates,
+            &gates,
+            self.preference,
+            self.watch,
+        );
+        let told = self.print(went, &coordinator);
+        shorten(self.alloc, left);
+        shorten(self.alloc, right);
+        shorten_archive(self.alloc, &mut coordinator);
+        drop(coordinator);
+        told
+    }
+
+    /// Prints the report of the session, which went so, and answers what it came to.
+    fn print<D: Disk>(
+        &mut self,
+        went: Result<(), Refusal>,
+        coordinator: &Coordinator<D>,
+    ) -> Result<Outcome, CommandError> {
+        went?;
+        let report = reported(coordinator)?;
+        self.watch.ended(report);
+        show_report(self.alloc, report, self.output)?;
+        Ok(outcome_of(report))
+    }
 }
 
 /// The replica under a lock. Refused 11 where memory is refused.
@@ -205,19 +211,4 @@ pub(crate) fn shared<D: Disk + Drop>(
 pub(crate) fn reported<D: Disk>(coordinator: &Coordinator<D>) -> Result<&Report, CommandError> {
     let report = coordinator.report();
     report.ok_or(CommandError::Refused(Refusal::NoAnswer))
-}
-
-/// Prints the report of a session that went so, and answers what it came to.
-fn print_session<D: Disk, V: SessionWatch, O: Write>(
-    alloc: Global,
-    went: Result<(), Refusal>,
-    coordinator: &Coordinator<D>,
-    watch: &mut V,
-    output: &mut O,
-) -> Result<Outcome, CommandError> {
-    went?;
-    let report = reported(coordinator)?;
-    watch.ended(report);
-    show_report(alloc, report, output)?;
-    Ok(outcome_of(report))
 }

@@ -1,10 +1,10 @@
 //! The images of a session, opened side by side.
-use crate::named::{NamedDisks, archive_on, replica_on};
+use crate::named::{archive_on, replica_on};
 use std::alloc::Global;
 use std::thread::{Threads, join};
 use syn_archive::Archive;
 use syn_command::CommandError;
-use syn_disk::{Access, Disk, LockedDisk, OpenError};
+use syn_disk::{Disk, LockedDisk, OpenError};
 use syn_replica::Replica;
 
 /// The images of a session, open.
@@ -15,28 +15,11 @@ pub(crate) struct Images<D: Disk> {
     pub archive: Archive<D>,
 }
 
-/// The images of these names, opened for this access.
+/// The images on the disks that were locked. What was not locked is refused so; where several are
+/// refused, the first of left, right and archive is told.
 ///
-/// The locks are taken one after another. Then each image is read by a thread, where one can be
-/// made, and the left by this one. Where several are refused, the first of left, right and archive
-/// is told.
-pub(crate) fn images_in<H: Threads + Sync, N: NamedDisks>(
-    rt: &H,
-    alloc: Global,
-    disks: &N,
-    left: &str,
-    right: &str,
-    archive: &str,
-    access: Access,
-) -> Result<Images<N::Disk>, CommandError> {
-    let left = disks.lock(left, access);
-    let right = disks.lock(right, access);
-    let archive = disks.lock(archive, access);
-    images_on(rt, alloc, left, right, archive)
-}
-
-/// The images on the disks that were locked. What was not locked is refused so.
-fn images_on<H: Threads + Sync, L: LockedDisk + Drop + Send>(
+/// Each image is read by a thread, where one can be made, and the left by this one.
+pub(crate) fn images_on<H: Threads + Sync, L: LockedDisk + Drop + Send>(
     rt: &H,
     alloc: Global,
     left: Result<L, OpenError>,

@@ -15,8 +15,8 @@ use Rattle.syn_propagate.proofs.CarryLemmas.{so_far, staged_kept, told, untold, 
 use Rattle.syn_propagate.specs.Carrying.{Exchanges, IsStagedTo, IsUnreplaced, IsWhole, WasCarried}
 use Rattle.syn_propagate.specs.Carrying.{IsEarlier, WasFetched, piece, source_of, target_of}
 use Rattle.syn_propagate.specs.Transfers.{Asks, FollowsAny, with_answer}
-use Rattle.syn_propagate.specs.inner.Progresses.{HasReached, HasStagedTo, WaitsForStage}
-use Rattle.syn_propagate.specs.inner.Progresses.{WaitsForReplacement}
+use Rattle.syn_propagate.specs.inner.TransferStates.{HasReached, HasStagedTo, WaitsForStage}
+use Rattle.syn_propagate.specs.inner.TransferStates.{WaitsForReplacement}
 use Rattle.syn_propagate.specs.declared.transfer_spec.TransferSpec.{TransferSpec}
 use Rattle.syn_propagate.specs.Refusals.{refusal_of}
 use Rattle.syn_propagate.specs.declared.error.TransferError.{TransferError}
@@ -25,13 +25,14 @@ use Rattle.syn_propagate.specs.Asking.{AsksFor}
 use Rattle.syn_propagate.specs.declared.next.Next.{Next}
 use Rattle.syn_propagate.specs.declared.next.Next.TheVariants.{Ask, Done, Refused}
 use Rattle.syn_message.specs.Requests.{request_of}
-use Rattle.syn_propagate.specs.declared.transfer.Progress.TheVariants.{Fetching, Staging, Replacing}
+use Rattle.syn_propagate.specs.declared.transfer.TransferState.TheVariants.{Fetching, Staging}
+use Rattle.syn_propagate.specs.declared.transfer.TransferState.TheVariants.{Replacing}
 use Rattle.syn_propagate.specs.declared.transfer.Transfer.{Transfer}
 
 module _ (c : TransferSpec) (taken : Exchanges) where
   pub asks_fetch : (offset : ℕ) (known : Option ℕ) → HasReached c taken offset known
       → IsLawfulBody (Fetch c.path c.source_since offset)
-      → Asks (record { spec = c; progress = Fetching offset known }) taken (source_of c)
+      → Asks (record { spec = c; state = Fetching offset known }) taken (source_of c)
       (Fetch c.path c.source_since offset)
   asks_fetch offset known reached lawful =
       let come = has_come c taken known offset reached.come in
@@ -50,7 +51,7 @@ module _ (c : TransferSpec) (taken : Exchanges) where
 
   pub asks_replace : (total : ℕ) → IsWhole c taken total → IsUnreplaced c taken
       → IsLawfulBody (Replace c.item c.path c.target_since total)
-      → Asks (record { spec = c; progress = Replacing }) taken (target_of c)
+      → Asks (record { spec = c; state = Replacing }) taken (target_of c)
       (Replace c.item c.path c.target_since total)
   asks_replace total whole unreplaced lawful = record {
     may = (
@@ -71,7 +72,7 @@ module _ (c : TransferSpec) (taken : Exchanges) where
       → HasReached c taken offset known → fits_piece known offset total (length bytes) ≡ true
       → 1 ≤ length bytes → IsLawfulBody (Stage c.item offset bytes)
       → end ≡ offset + length bytes
-      → Asks (record { spec = c; progress = Staging end total })
+      → Asks (record { spec = c; state = Staging end total })
       (with_answer taken (source_of c) number (Fetch c.path c.source_since offset)
       (Piece total bytes)) (target_of c) (Stage c.item offset bytes)
   asks_stage number offset total end known bytes reached fits some lawful ends =

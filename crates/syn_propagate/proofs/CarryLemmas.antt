@@ -19,7 +19,7 @@ use Rattle.syn_model.specs.Path.{Bytes, Path, path_cmp}
 use Rattle.syn_propagate.specs.Carrying.{Exchanges, AreEarlier, IsEarlier, IsNew, IsStagedTo}
 use Rattle.syn_propagate.specs.Carrying.{IsWhole, WasFetched, WasStaged, nothing, piece}
 use Rattle.syn_propagate.specs.Transfers.{with_answer}
-use Rattle.syn_propagate.specs.inner.Progresses.{HasCome, HasStaged}
+use Rattle.syn_propagate.specs.inner.TransferStates.{HasCome, HasStaged}
 use Rattle.syn_propagate.specs.declared.transfer_spec.TransferSpec.{TransferSpec}
 use Rattle.syn_model.proofs.BaseLemmas.{contains_one}
 use Rattle.syn_model.proofs.PathLemmas.{path_itself}

@@ -13,8 +13,8 @@ use Rattle.syn_propagate.proofs.AskLemmas.{carried, goes_on, staged}
 use Rattle.syn_propagate.specs.Carrying.{Exchanges, WasCarried, source_of}
 use Rattle.syn_propagate.specs.Refusals.{refusal_of}
 use Rattle.syn_propagate.specs.Transfers.{Follows, FollowsAny, with_answer}
-use Rattle.syn_propagate.specs.inner.Progresses.{HasReached, HasStagedTo, WaitsForPiece}
-use Rattle.syn_propagate.specs.inner.Progresses.{WaitsForReplacement, WaitsForStage}
+use Rattle.syn_propagate.specs.inner.TransferStates.{HasReached, HasStagedTo, WaitsForPiece}
+use Rattle.syn_propagate.specs.inner.TransferStates.{WaitsForReplacement, WaitsForStage}
 use Rattle.syn_propagate.specs.declared.transfer_spec.TransferSpec.{TransferSpec}
 use Rattle.syn_propagate.specs.declared.error.TransferError.{TransferError}
 use Rattle.syn_propagate.specs.declared.error.TransferError.TheVariants.{Memory}

@@ -16,8 +16,8 @@ use Rattle.syn_propagate.specs.declared.error.TransferError.TheVariants.{BadMess
 use Rattle.syn_propagate.specs.declared.next.Next.{Next}
 use Rattle.syn_propagate.specs.declared.next.Next.TheVariants.{Ask, Done, Refused}
 use Rattle.syn_propagate.specs.declared.transfer.Transfer.{Transfer}
-pub use Rattle.syn_propagate.specs.inner.Progresses.{IsOver, IsReady, IsWaiting, WaitsFor}
-pub use Rattle.syn_propagate.specs.inner.Progresses.{spec_of}
+pub use Rattle.syn_propagate.specs.inner.TransferStates.{IsOver, IsReady, IsWaiting, WaitsFor}
+pub use Rattle.syn_propagate.specs.inner.TransferStates.{spec_of}
 use Rattle.syn_refusal.specs.Refusals.{cause_of}
 
 -- it asks for what may be asked, for the first time, and waits for the answer

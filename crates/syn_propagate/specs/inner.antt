@@ -1,2 +1,2 @@
 -- How a transfer keeps what the public words say of it.
-pub mod Progresses
+pub mod TransferStates

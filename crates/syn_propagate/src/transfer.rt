@@ -21,7 +21,7 @@ use syn_message::{LONGEST_PIECE, Reply, StagedPiece};
 
 /// How far a transfer has come.
 #[derive(Clone, Copy, Debug)]
-enum Progress {
+enum TransferState {
     /// Nothing is asked yet.
     Ready,
     /// The piece from the offset on is asked for. How long the whole is, the first piece tells.
@@ -38,16 +38,16 @@ enum Progress {
 #[derive(Debug, Drop)]
 pub struct Transfer {
     spec: TransferSpec,
-    progress: Progress,
+    state: TransferState,
 }
 
 impl Transfer {
     ghost use Rattle.syn_propagate.specs.Transfers.{EndsBy, Follows, FollowsAny, IsMisfit, IsOver};
     ghost use Rattle.syn_propagate.specs.Transfers.{IsAsking, IsOverUnlessAsking, IsReady};
-    ghost use Rattle.syn_propagate.specs.inner.Progresses.{IsWaiting};
+    ghost use Rattle.syn_propagate.specs.inner.TransferStates.{IsWaiting};
     ghost use Rattle.syn_propagate.specs.Transfers.{TakesMemory, WaitsFor, spec_of};
     ghost use Rattle.syn_propagate.specs.Transfers.{with_answer};
-    ghost use Rattle.syn_propagate.specs.inner.Progresses.{HasReached, HasStagedTo};
+    ghost use Rattle.syn_propagate.specs.inner.TransferStates.{HasReached, HasStagedTo};
 
     /// A transfer that has asked for nothing yet.
     pub fn new(spec: TransferSpec) -> Transfer
@@ -56,7 +56,7 @@ impl Transfer {
     {
         Transfer {
             spec,
-            progress: Progress::Ready,
+            state: TransferState::Ready,
         }
     }
 
@@ -106,22 +106,22 @@ impl Transfer {
         let Some(reply) = reply else {
             return self.start(alloc);
         };
-        match self.progress {
-            Progress::Ready | Progress::Over => self.end(Err(TransferError::BadMessage)),
-            Progress::Fetching { offset, total } => match reply {
+        match self.state {
+            TransferState::Ready | TransferState::Over => self.end(Err(TransferError::BadMessage)),
+            TransferState::Fetching { offset, total } => match reply {
                 Reply::Piece {
                     total: whole,
                     bytes,
                 } => self.take_piece(alloc, offset, total, whole, bytes),
                 other => self.end(or_refused(other)),
             },
-            Progress::Staging { end, total } => match reply {
+            TransferState::Staging { end, total } => match reply {
                 Reply::Staged => self.go_on(alloc, end, total),
                 other => self.end(or_refused(other)),
             },
-            Progress::Replacing => match reply {
+            TransferState::Replacing => match reply {
                 Reply::Done => {
-                    self.progress = Progress::Over;
+                    self.state = TransferState::Over;
                     Ok(Next::Done)
                 }
                 other => self.end(or_refused(other)),
@@ -135,7 +135,7 @@ impl Transfer {
         ensures over { IsOver self.new }
         ensures spec { spec_of self.new ≡ spec_of self.old }
     {
-        self.progress = Progress::Over;
+        self.state = TransferState::Over;
         answer
     }
 
@@ -153,8 +153,8 @@ impl Transfer {
             (λ e. e ≡ TransferError.BadMessage → IsOver self.new) }
         ensures unchanged { result ≡ Err TransferError.Memory → self.new ≡ self.old }
     {
-        match self.progress {
-            Progress::Ready => self.fetch(alloc, 0, None),
+        match self.state {
+            TransferState::Ready => self.fetch(alloc, 0, None),
             _ => self.end(Err(TransferError::BadMessage)),
         }
     }
@@ -191,7 +191,7 @@ impl Transfer {
             return self.replace(alloc, total);
         }
         let end = offset + bytes.len() as u32;
-        self.progress = Progress::Staging { end, total };
+        self.state = TransferState::Staging { end, total };
         Ok(self.spec.stage(offset, StagedPiece::new(bytes)))
     }
 
@@ -229,7 +229,7 @@ impl Transfer {
         ensures unchanged { OnErr result (self.new ≡ self.old) }
     {
         let next = self.spec.fetch(alloc, offset)?;
-        self.progress = Progress::Fetching { offset, total };
+        self.state = TransferState::Fetching { offset, total };
         Ok(next)
     }
 
@@ -245,7 +245,7 @@ impl Transfer {
         ensures unchanged { OnErr result (self.new ≡ self.old) }
     {
         let next = self.spec.replace(alloc, total)?;
-        self.progress = Progress::Replacing;
+        self.state = TransferState::Replacing;
         Ok(next)
     }
 }

@@ -9,7 +9,7 @@ use Rattle.syn_propagate.proofs.transfer.Transfer.step.Goals as goal
 use Rattle.syn_propagate.specs.Carrying.{WasCarried}
 use Rattle.syn_propagate.specs.declared.next.Next.TheVariants.{Done}
 use Rattle.syn_propagate.specs.Transfers.{with_answer}
-use Rattle.syn_propagate.specs.inner.Progresses.{WaitsAt}
+use Rattle.syn_propagate.specs.inner.TransferStates.{WaitsAt}
 
 pub returns-in-Piece-clause-goes_on : goal.returns-in-Piece-clause-goes_on
 returns-in-Piece-clause-goes_on c taken to request number answer is waits =

@@ -7,10 +7,9 @@ use syn_tree::Edit;
 /// What a terminal takes for: back to the beginning of the line, and nothing in it.
 pub(crate) const CLEARED: &str = "\r\x1b[K";
 
-/// How much is told of the edits of an import, or of the items of a session or of a folder. What
-/// cannot be written is left out.
+/// How much is told of the edits of an import, or of the items of a session or of a folder.
 #[derive(Clone, Copy, Debug, PartialEq, Eq)]
-pub struct ProgressMode {
+pub struct Verbosity {
     /// Each edit or item has a line, once it is made or settled.
     pub each: bool,
     /// A last line says how many of all are. It is written again in its place, so it wants a
@@ -18,34 +17,35 @@ pub struct ProgressMode {
     pub counts: bool,
 }
 
-impl ProgressMode {
+/// Tells of a command's work as it goes on. What cannot be written is left out.
+#[derive(Drop)]
+pub struct Teller<'e, E> {
+    pub verbosity: Verbosity,
+    /// Where it is told, with what else a command has to say.
+    pub errors: &'e mut E,
+}
+
+impl<E: Write> Teller<'_, E> {
     /// Tells that one more was done, by its line, and how many of all were done now: `of_what` says
     /// what they are.
-    pub fn tell<E: Write>(
-        self,
-        line: &str,
-        count: usize,
-        all: usize,
-        of_what: &str,
-        errors: &mut E,
-    ) {
-        if self.counts {
-            let _ = errors.write_all(CLEARED.as_bytes());
+    pub fn tell(&mut self, line: &str, count: usize, all: usize, of_what: &str) {
+        if self.verbosity.counts {
+            let _ = self.errors.write_all(CLEARED.as_bytes());
         }
-        if self.each {
-            let _ = errors.write_all(line.as_bytes());
+        if self.verbosity.each {
+            let _ = self.errors.write_all(line.as_bytes());
         }
-        if self.counts {
-            let _ = write!(errors, "{count} of {all} {of_what}");
-            let _ = errors.flush();
+        if self.verbosity.counts {
+            let _ = write!(self.errors, "{count} of {all} {of_what}");
+            let _ = self.errors.flush();
         }
     }
 
     /// Takes the line of the counts away.
-    pub fn end<E: Write>(self, errors: &mut E) {
-        if self.counts {
-            let _ = errors.write_all(CLEARED.as_bytes());
-            let _ = errors.flush();
+    pub fn end(&mut self) {
+        if self.verbosity.counts {
+            let _ = self.errors.write_all(CLEARED.as_bytes());
+            let _ = self.errors.flush();
         }
     }
 }
@@ -64,10 +64,10 @@ pub(crate) fn edit_line(alloc: Global, edit: &Edit) -> Result<String, AllocError
 pub(crate) fn lines_of(
     alloc: Global,
     edits: &[Edit],
-    progress: ProgressMode,
+    verbosity: Verbosity,
 ) -> Result<String, AllocError> {
     let mut lines = String::new(alloc);
-    if progress.each {
+    if verbosity.each {
         for edit in edits {
             lines.push_str(&edit_line(alloc, edit)?)?;
         }

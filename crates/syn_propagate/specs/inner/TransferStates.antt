@@ -1,4 +1,4 @@
--- How far a transfer has come, by its progress.
+-- How far a transfer has come, by its state.
 use Rattle.std.specs.Prelude.{◌≡◌, ◌+◌, ◌<◌, ◌≤◌, ℕ, suc, length, Option, Some, None}
 use Rattle.syn_headline.specs.Network.{Which}
 use Rattle.syn_headline.specs.Session.{first_total}
@@ -7,9 +7,10 @@ use Rattle.syn_model.specs.Path.{Bytes}
 use Rattle.syn_propagate.specs.Carrying.{Exchanges, AreEarlier, IsWhole}
 use Rattle.syn_propagate.specs.Carrying.{WasFetched, WasStaged, source_of, target_of}
 use Rattle.syn_propagate.specs.declared.transfer_spec.TransferSpec.{TransferSpec}
-use Rattle.syn_propagate.specs.declared.transfer.Progress.{Progress}
-use Rattle.syn_propagate.specs.declared.transfer.Progress.TheVariants.{Ready, Fetching, Staging}
-use Rattle.syn_propagate.specs.declared.transfer.Progress.TheVariants.{Replacing, Over}
+use Rattle.syn_propagate.specs.declared.transfer.TransferState.{TransferState}
+use Rattle.syn_propagate.specs.declared.transfer.TransferState.TheVariants.{Ready, Fetching}
+use Rattle.syn_propagate.specs.declared.transfer.TransferState.TheVariants.{Staging, Replacing}
+use Rattle.syn_propagate.specs.declared.transfer.TransferState.TheVariants.{Over}
 use Rattle.syn_propagate.specs.declared.transfer.Transfer.{Transfer}
 
 abbrev pub spec_of : Transfer → TransferSpec
@@ -17,14 +18,14 @@ spec_of transfer = transfer.spec
 
 -- nothing is asked yet
 abbrev pub IsReady : Transfer → Type 0
-IsReady transfer = transfer.progress ≡ Ready
+IsReady transfer = transfer.state ≡ Ready
 
 -- it is done or was refused, and asks for nothing more
 abbrev pub IsOver : Transfer → Type 0
-IsOver transfer = transfer.progress ≡ Over
+IsOver transfer = transfer.state ≡ Over
 
 -- neither of the two: it waits for an answer
-abbrev pub IsWaitingAt : Progress → Type 0
+abbrev pub IsWaitingAt : TransferState → Type 0
 IsWaitingAt Ready = ⊥
 IsWaitingAt (Fetching offset total) = Unit {0}
 IsWaitingAt (Staging end total) = Unit {0}
@@ -32,7 +33,7 @@ IsWaitingAt Replacing = Unit {0}
 IsWaitingAt Over = ⊥
 
 abbrev pub IsWaiting : Transfer → Type 0
-IsWaiting transfer = IsWaitingAt transfer.progress
+IsWaiting transfer = IsWaitingAt transfer.state
 
 -- so many bytes of it were staged
 pub record HasStaged (c : TransferSpec) (taken : Exchanges) (total offset : ℕ) : Type 0 where
@@ -92,7 +93,7 @@ pub record WaitsForReplacement (c : TransferSpec) (taken : Exchanges) (to : Whic
   pub asked : request ≡ Replace c.item c.path c.target_since total
   pub whole : IsWhole c taken total
 
-abbrev pub WaitsAt : TransferSpec → Exchanges → Progress → Which → Request → Type 0
+abbrev pub WaitsAt : TransferSpec → Exchanges → TransferState → Which → Request → Type 0
 WaitsAt c taken Ready to request = ⊥
 WaitsAt c taken (Fetching offset total) to request = WaitsForPiece c taken offset total to request
 WaitsAt c taken (Staging end total) to request = WaitsForStage c taken end total to request
@@ -102,4 +103,4 @@ WaitsAt c taken Over to request = ⊥
 -- it has come so far by these exchanges, and waits for the answer to this request
 abbrev pub WaitsFor : Transfer → Exchanges → Which → Request → Type 0
 WaitsFor transfer taken to request =
-    WaitsAt transfer.spec taken transfer.progress to request
+    WaitsAt transfer.spec taken transfer.state to request
