@@ -14,7 +14,7 @@ use std::net::{Net, TcpListener, TcpStream};
 use std::sync::Wait;
 use std::thread::Threads;
 use std::time::Clock;
-use syn_cli::{Command, ImageCommand, ImportCommand, LineError, ReconcileCommand, read_words};
+use syn_cli::{Command, ImageCommand, ImportCommand, ReconcileCommand, WordsError, read_words};
 use syn_command::{
     CommandError, Failure, Outcome, Status, Teller, Verbosity, print_meanings, tell_answer,
 };
@@ -107,24 +107,24 @@ struct Context<'c, H, F, N> {
 }
 
 /// Tells why the words are no command, or the help or the version where the words ask for it.
-fn tell<O: Write, E: Write>(error: &LineError, output: &mut O, errors: &mut E) -> Status
+fn tell<O: Write, E: Write>(error: &WordsError, output: &mut O, errors: &mut E) -> Status
     ensures done { result ≡ Status.Done → IsRequest error.now }
     ensures usage { result ≡ Status.Usage → IsMistake error.now }
     ensures mistake { IsMistake error.now → ¬ IsRequest error.now → result ≡ Status.Usage }
     ensures mistaken { ¬ IsRequest error.now → (result ≡ Status.Usage) ⊎ (result ≡ Status.Refused) }
 {
     match error {
-        LineError::Memory => {
+        WordsError::Memory => {
             let failure = Failure::Refused(CommandError::Memory);
             return tell_answer(None, &Err(failure), errors);
         }
-        LineError::Usage(asked) => match asked.kind() {
+        WordsError::Usage(asked) => match asked.kind() {
             ErrorKind::DisplayHelp | ErrorKind::DisplayVersion => {
                 return tell_answer(None, &help(asked, output), errors);
             }
             _ => {}
         },
-        LineError::Value(_) => {}
+        WordsError::Value(_) => {}
     }
     let _ = write!(errors, "{error}");
     Status::Usage

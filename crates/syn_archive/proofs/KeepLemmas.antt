@@ -24,19 +24,19 @@ use Rattle.syn_archive.specs.declared.archive.Archive.{Archive}
 use Rattle.syn_archive.specs.declared.error.ArchiveError.{ArchiveError}
 use Rattle.syn_archive.specs.declared.error.ArchiveError.TheVariants.{NoParent, Root, Full}
 use Rattle.syn_archive.specs.declared.error.ArchiveError.TheVariants.{JournalFull, Halted, Memory}
-use Rattle.syn_archive.specs.declared.keeping.Keeping.{Keeping}
-use Rattle.syn_archive.specs.declared.keeping.Keeping.TheVariants as keeping
+use Rattle.syn_archive.specs.declared.new_record.NewRecord.{NewRecord}
+use Rattle.syn_archive.specs.declared.new_record.NewRecord.TheVariants as added
 use Rattle.syn_archive.proofs.EndLemmas.{same_error}
 use Rattle.syn_archive.proofs.StandLemmas.{keeps_now}
 
 -- ---- why it is not kept
 
 -- what is news has to be written
-news : (archive : model.Archive) (last : ℕ) (what : Keeping) → IsNews archive what →
+news : (archive : model.Archive) (last : ℕ) (what : NewRecord) → IsNews archive what →
     to_write archive (kept_in last what) ≡ Some (kept_in last what)
-news archive last keeping.Session is = refl
-news archive last (keeping.Record path marks) is = refl
-news archive last (keeping.Dir path) is =
+news archive last added.Session is = refl
+news archive last (added.Record path marks) is = refl
+news archive last (added.Dir path) is =
     ap (λ b. if b then None else Some (RecordedDir path.now)) is
 
 pub marks_refuse : (room : ℕ) (archive : model.Archive) (kept : Kept) (w : Refusal) →
@@ -44,7 +44,7 @@ pub marks_refuse : (room : ℕ) (archive : model.Archive) (kept : Kept) (w : Ref
 marks_refuse room archive kept w is =
     ap (λ o. option_or o (room_refusal room (to_write archive kept))) is
 
-module _ (room : ℕ) (archive : model.Archive) (last : ℕ) (what : Keeping)
+module _ (room : ℕ) (archive : model.Archive) (last : ℕ) (what : NewRecord)
     (is : IsNews archive what) (allowed : kept_refusal archive (kept_in last what) ≡ None) where
   by_room : keep_refusal room archive (kept_in last what)
       ≡ room_refusal room (Some (kept_in last what))

@@ -24,8 +24,8 @@ use Rattle.syn_archive.specs.Machines.{KeepsRecord, ReadsDisk, Runs, breaks, bre
 use Rattle.syn_archive.specs.Machines.{failed_reading, keeps, moves_down, moves_on, read, refuses}
 use Rattle.syn_archive.specs.Machines.{Starts, stays, stopped_reading, unread}
 use Rattle.syn_archive.specs.declared.archive.Archive.{Archive}
-use Rattle.syn_archive.specs.declared.keeping.Keeping.{Keeping}
-use Rattle.syn_archive.specs.declared.keeping.Keeping.TheVariants as keeping
+use Rattle.syn_archive.specs.declared.new_record.NewRecord.{NewRecord}
+use Rattle.syn_archive.specs.declared.new_record.NewRecord.TheVariants as added
 use Rattle.syn_archive.specs.inner.Agreements.{kept_as}
 use Rattle.syn_archive.specs.inner.Keepings.{IsNews, kept_in}
 use Rattle.syn_archive.proofs.StandLemmas.{left_behind}
@@ -258,10 +258,10 @@ left_alone archive pair now path is running there =
     (subst (λ v. IsMachine archive pair (record now { value = v })) (sym value) is))
 
 -- what is news has to be written
-pub not_idle : (pair : ℕ) (archive kept : model.Archive) (last : ℕ) (what : Keeping) →
+pub not_idle : (pair : ℕ) (archive kept : model.Archive) (last : ℕ) (what : NewRecord) →
     archive ≡ kept → IsNews archive what →
     (archive_layout pair).is_idle kept (kept_in last what) ≡ false
-not_idle pair archive kept last keeping.Session same news = refl
-not_idle pair archive kept last (keeping.Record path marks) same news = refl
-not_idle pair archive kept last (keeping.Dir path) same news =
+not_idle pair archive kept last added.Session same news = refl
+not_idle pair archive kept last (added.Record path marks) same news = refl
+not_idle pair archive kept last (added.Dir path) same news =
     ap (λ a. is_directory a.marks path.now) (sym same) ∙ news

@@ -26,7 +26,7 @@ ghost use Rattle.syn_journal.specs.Endings.{Spends, ended};
 
 use crate::agreed::Agreed;
 use crate::error::ArchiveError;
-use crate::keeping::{Keeping, Prepared};
+use crate::new_record::{NewRecord, Prepared};
 use std::alloc::Global;
 use syn_disk::{Arm, Disk, Limit};
 use syn_image::ItemRecord;
@@ -193,7 +193,7 @@ impl<D: Disk> Archive<D> {
             → KeepsRecord self.new number machine (Session (session_shown self.old + 1))
             (ended refusal_of result) }
     {
-        self.keep(alloc, Keeping::Session)?;
+        self.keep(alloc, NewRecord::Session)?;
         Ok(self.last_session())
     }
 
@@ -263,7 +263,7 @@ impl<D: Disk> Archive<D> {
             → KeepsRecord self.new number machine (recorded_at path.now marks.entry)
             (ended refusal_of result) }
     {
-        self.keep(alloc, Keeping::Record(path, marks))
+        self.keep(alloc, NewRecord::Record(path, marks))
     }
 
     /// Records a directory at the path, with what the archive has below it; nothing where a
@@ -311,12 +311,12 @@ impl<D: Disk> Archive<D> {
         }
         match self.tree().get(path) {
             Some(Mark::Dir) => Ok(()),
-            _ => self.keep(alloc, Keeping::Dir(path)),
+            _ => self.keep(alloc, NewRecord::Dir(path)),
         }
     }
 
     /// Keeps it, where it is news.
-    fn keep(&mut self, alloc: Global, what: Keeping<'_>) -> Result<(), ArchiveError>
+    fn keep(&mut self, alloc: Global, what: NewRecord<'_>) -> Result<(), ArchiveError>
         requires { IsNews (shown self.old) what }
         ensures acknowledged { (kept : KeptArchive) → Stands self.old kept
             → OnOk result (Stands self.new
@@ -348,7 +348,7 @@ impl<D: Disk> Archive<D> {
 
     /// Its payload and its update, where it can be kept. It is refused as `keep` refuses it, but
     /// for a device call.
-    fn prepare(&self, alloc: Global, what: Keeping<'_>) -> Result<Prepared, ArchiveError>
+    fn prepare(&self, alloc: Global, what: NewRecord<'_>) -> Result<Prepared, ArchiveError>
         requires { IsNews (shown self.now) what }
         ensures running { OnOk result (¬ IsHalted self.now) }
         ensures fits { OnOk result

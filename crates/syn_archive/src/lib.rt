@@ -59,8 +59,8 @@
 mod agreed;
 mod archive;
 mod error;
-mod keeping;
 mod laws;
+mod new_record;
 mod opening;
 
 pub use archive::Archive;

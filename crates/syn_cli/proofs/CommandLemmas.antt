@@ -17,8 +17,8 @@ use Rattle.clap.proofs.WalkLemmas.{first_value-rows}
 use Rattle.syn_cli.specs.App.{syn_app}
 use Rattle.syn_cli.specs.Reads.{Asks, AsksHelp, AsksWhy, IfUsage, IsMistake, IsRequest, IsSet}
 use Rattle.syn_cli.specs.Reads.{IsSetIn, IsValue, NothingReads, Reads, ReadsRows}
-use Rattle.syn_cli.specs.declared.error.LineError.{LineError}
-use Rattle.syn_cli.specs.declared.error.LineError.TheVariants.{Usage, Value, Memory}
+use Rattle.syn_cli.specs.declared.error.WordsError.{WordsError}
+use Rattle.syn_cli.specs.declared.error.WordsError.TheVariants.{Usage, Value, Memory}
 use Rattle.syn_cli.specs.declared.command.Command.{Command}
 use Rattle.syn_cli.specs.inner.Lacking.{IsLackOf}
 
@@ -56,7 +56,7 @@ no_fault app words same none =
     subst P same none syn_is_free
 
 -- so what is told of such an error is of the kinds
-pub told_among : (error : LineError) (app : App) (words : List Text) (e : Error) → app ≡ syn_app →
+pub told_among : (error : WordsError) (app : App) (words : List Text) (e : Error) → app ≡ syn_app →
     (is_simple_and_free app ≡ true → HasKind (fault_of app words) e) →
     IfUsage error (λ told. (told ≡ e) × (kind_of e ≡ OutOfMemory → ⊥)) →
     IfUsage error (λ told. IsAmong (kind_of told) (fault_of syn_app words))
@@ -131,7 +131,7 @@ reads_found found name rows command same read =
     subst P (sym same) read
 
 -- what is told where the help is asked for
-pub is_asked : (error : LineError) (words : List Text) → IsRequest error
+pub is_asked : (error : WordsError) (words : List Text) → IsRequest error
     → IfUsage error (λ told. IsAmong (kind_of told) (fault_of syn_app words)) → AsksHelp words
 is_asked (Usage e) words request among = elim request [
   | inl help ↦ inl (subst (λ (k : ErrorKind). IsAmong k (fault_of syn_app words)) help among)
@@ -141,7 +141,7 @@ is_asked (Value id) words request among = absurd request
 is_asked Memory words request among = absurd request
 
 -- where `clap` refuses the words they ask for nothing
-pub is_no_command : (error : LineError) (words : List Text) → (IsValue error → ⊥)
+pub is_no_command : (error : WordsError) (words : List Text) → (IsValue error → ⊥)
     → IfUsage error (λ told. IsAmong (kind_of told) (fault_of syn_app words))
     → IsMistake error → (command : Command) → Asks words command → ⊥
 is_no_command (Usage e) words no_value among mistake command asks =
@@ -150,8 +150,8 @@ is_no_command (Value id) words no_value among mistake command asks = no_value tt
 is_no_command Memory words no_value among mistake command asks = mistake
 
 -- where a value is told, no help was asked for
-pub is_no_request : (error : LineError) (name : Text) (rows : List Row) → IsLackOf name rows error →
-    IsRequest error → ⊥
+pub is_no_request : (error : WordsError) (name : Text) (rows : List Row)
+    → IsLackOf name rows error → IsRequest error → ⊥
 is_no_request (Usage e) name rows lacks request = lacks
 is_no_request (Value told) name rows lacks request = request
 is_no_request Memory name rows lacks request = request

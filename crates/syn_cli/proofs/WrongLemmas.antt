@@ -35,8 +35,8 @@ use Rattle.syn_cli.specs.declared.verb.Verb.TheVariants.{Format, Put, MakeDir, R
 use Rattle.syn_cli.specs.declared.verb.Verb.TheVariants.{Show, Reconcile}
 use Rattle.syn_cli.specs.declared.verb.Verb.TheVariants.{Check, Migrate, Log, Export, Import}
 use Rattle.syn_cli.specs.declared.verb.Verb.TheVariants.{Serve, Sync, Run, Plan, Simulate}
-use Rattle.syn_cli.specs.declared.error.LineError.{LineError}
-use Rattle.syn_cli.specs.declared.error.LineError.TheVariants.{Usage, Value, Memory}
+use Rattle.syn_cli.specs.declared.error.WordsError.{WordsError}
+use Rattle.syn_cli.specs.declared.error.WordsError.TheVariants.{Usage, Value, Memory}
 use Rattle.syn_cli.specs.inner.Lacking.{IsLackOf}
 use Rattle.syn_cli.proofs.GivenLemmas.{IsFull, full_finished, full_walk, give, given_text}
 use Rattle.syn_cli.proofs.GivenLemmas.{no_faults}
@@ -364,14 +364,14 @@ names_one words taken none =
     true≢false (sym one ∙ ap (λ (o : Option (Text × List Row)). is_some o) none)
 
 -- what the command lacks leaves nothing to read
-pub lack_nothing : (name : Text) (rows : List Row) (error : LineError) → IsLackOf name rows error →
+pub lack_nothing : (name : Text) (rows : List Row) (error : WordsError) → IsLackOf name rows error →
     NothingReads (Some (name, rows))
 lack_nothing name rows (Value told) lacks = lacks_nothing rows name told lacks
 lack_nothing name rows (Usage e) lacks = absurd lacks
 lack_nothing name rows Memory lacks = absurd lacks
 
 -- and where the words have no fault, it is wrong
-pub lack_wrong : (words : List Text) (name : Text) (rows : List Row) (error : LineError) →
+pub lack_wrong : (words : List Text) (name : Text) (rows : List Row) (error : WordsError) →
     fault_of syn_app words ≡ [] → subcommand_of syn_app words ≡ Some (name, rows) →
     IsLackOf name rows error → IfValue error (IsWrongValue (subcommand_of syn_app words))
 lack_wrong words name rows (Value told) taken found lacks =

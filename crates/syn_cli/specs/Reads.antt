@@ -13,8 +13,8 @@ use Rattle.syn_tree.specs.Modes.{mode_digits, mode_of}
 use Rattle.syn_tree.specs.declared.mode.Mode.{Mode}
 use Rattle.syn_cli.specs.App.{syn_app}
 use Rattle.syn_cli.specs.Verbs.{edit_verb, name_of, values_of, word_of}
-use Rattle.syn_cli.specs.declared.error.LineError.{LineError}
-use Rattle.syn_cli.specs.declared.error.LineError.TheVariants.{Usage, Value, Memory}
+use Rattle.syn_cli.specs.declared.error.WordsError.{WordsError}
+use Rattle.syn_cli.specs.declared.error.WordsError.TheVariants.{Usage, Value, Memory}
 use Rattle.syn_cli.specs.declared.command.Between.{Between}
 use Rattle.syn_cli.specs.declared.command.Between.TheVariants.{Files, Servers}
 use Rattle.syn_cli.specs.declared.command.EditKind.{EditKind}
@@ -374,26 +374,26 @@ AsksWhy words = IsSet (matches_of syn_app words) (codes "verbose")
     ⊎ IsSetIn (subcommand_of syn_app words) (codes "verbose")
 
 -- a value is wrong
-abbrev pub IsValue : LineError → Type 0
+abbrev pub IsValue : WordsError → Type 0
 IsValue (Value told) = Unit {0}
 IsValue _ = ⊥
 
 -- a fact of the value that is wrong
-abbrev pub IfValue : LineError → (ValueName → Type 0) → Type 0
+abbrev pub IfValue : WordsError → (ValueName → Type 0) → Type 0
 IfValue (Value told) P = P told
 IfValue _ P = Unit {0}
 
 -- a fact of what `clap` tells, where it refuses the words
-abbrev pub IfUsage : LineError → (Error → Type 0) → Type 0
+abbrev pub IfUsage : WordsError → (Error → Type 0) → Type 0
 IfUsage (Usage error) P = P error
 IfUsage _ P = Unit {0}
 
 -- the help or the version is asked for
-abbrev pub IsRequest : LineError → Type 0
+abbrev pub IsRequest : WordsError → Type 0
 IsRequest (Usage error) = (kind_of error ≡ DisplayHelp) ⊎ (kind_of error ≡ DisplayVersion)
 IsRequest _ = ⊥
 
 -- the words are wrong
-abbrev pub IsMistake : LineError → Type 0
+abbrev pub IsMistake : WordsError → Type 0
 IsMistake Memory = ⊥
 IsMistake _ = Unit {0}

@@ -5,7 +5,7 @@ use thiserror::Error;
 
 /// Why the words are no command.
 #[derive(Debug, Drop, Error)]
-pub enum LineError {
+pub enum WordsError {
     /// `clap` refuses the words, or they ask for the help or the version.
     #[error("{0}")]
     Usage(clap::Error),
@@ -18,13 +18,13 @@ pub enum LineError {
     Memory,
 }
 
-impl From<std::alloc::AllocError> for LineError {
+impl From<std::alloc::AllocError> for WordsError {
     ghost use Rattle.std.specs.Prelude.{◌≡◌};
-    ghost use Rattle.syn_cli.specs.declared.error.LineError.TheVariants.{Memory};
+    ghost use Rattle.syn_cli.specs.declared.error.WordsError.TheVariants.{Memory};
 
     ghost from_gives = { λ _ e. e ≡ Memory };
 
-    fn from(_error: std::alloc::AllocError) -> LineError {
-        LineError::Memory
+    fn from(_error: std::alloc::AllocError) -> WordsError {
+        WordsError::Memory
     }
 }

@@ -24,7 +24,7 @@ pub use command::{
     ImageCommand, ImageKind, ImportCommand, KeepCommand, OnStranger, Pairing, ReconcileCommand,
     ReplicaLocation, ServeCommand,
 };
-pub use error::LineError;
+pub use error::WordsError;
 pub use value::ValueName;
 pub use verb::Verb;
 pub use words::read_words;

@@ -14,7 +14,7 @@ use crate::command::{
     Between, Command, EditCommand, EditKind, Existing, ExportCommand, FolderCommand, ImageCommand,
     ImageKind, ImportCommand, KeepCommand, OnStranger, Pairing, ReconcileCommand, ServeCommand,
 };
-use crate::error::LineError;
+use crate::error::WordsError;
 use crate::value::ValueName;
 use crate::values::{
     folder_side, image_kind, is_set, location, mode, number, optional_text, side, text, user,
@@ -25,7 +25,10 @@ use syn_path::Side;
 use syn_tree::Mode;
 
 /// The line of the command, or the first value of it that is missing or wrong.
-pub(crate) fn command_of<'a>(verb: Verb, matches: &ArgMatches<'a>) -> Result<Command<'a>, LineError>
+pub(crate) fn command_of<'a>(
+    verb: Verb,
+    matches: &ArgMatches<'a>,
+) -> Result<Command<'a>, WordsError>
     ensures ok { IfOk result (IsCommandOf verb (rows_of (found_of matches.now))) }
     ensures lacks { IfErr result (IsLack verb (rows_of (found_of matches.now))) }
 {
@@ -47,7 +50,7 @@ pub(crate) fn command_of<'a>(verb: Verb, matches: &ArgMatches<'a>) -> Result<Com
     }
 }
 
-fn format_command<'a>(matches: &ArgMatches<'a>) -> Result<Command<'a>, LineError>
+fn format_command<'a>(matches: &ArgMatches<'a>) -> Result<Command<'a>, WordsError>
     ensures ok { IfOk result (IsCommandOf Verb.Format (rows_of (found_of matches.now))) }
     ensures lacks { IfErr result (IsLack Verb.Format (rows_of (found_of matches.now))) }
 {
@@ -57,7 +60,7 @@ fn format_command<'a>(matches: &ArgMatches<'a>) -> Result<Command<'a>, LineError
     Ok(Command::Image(ImageCommand::Format { kind, pair, file }))
 }
 
-fn kind_given(matches: &ArgMatches<'_>) -> Result<ImageKind, LineError>
+fn kind_given(matches: &ArgMatches<'_>) -> Result<ImageKind, WordsError>
     ensures ok { IfOk result (λ kind. HasText (rows_of (found_of matches.now))
         (name_of ValueName.Kind) (kind_word kind)) }
     ensures lacks { IfErr result (IsLack Verb.Format (rows_of (found_of matches.now))) }
@@ -65,7 +68,7 @@ fn kind_given(matches: &ArgMatches<'_>) -> Result<ImageKind, LineError>
     image_kind(text(matches, ValueName::Kind)?)
 }
 
-fn pair_given(matches: &ArgMatches<'_>) -> Result<u64, LineError>
+fn pair_given(matches: &ArgMatches<'_>) -> Result<u64, WordsError>
     ensures ok { IfOk result (HasNumber 64 (rows_of (found_of matches.now))
         (name_of ValueName.Pair)) }
     ensures lacks { IfErr result (IsLack Verb.Format (rows_of (found_of matches.now))) }
@@ -75,7 +78,7 @@ fn pair_given(matches: &ArgMatches<'_>) -> Result<u64, LineError>
 
 /// The edit of a command that makes one.
 #[tactic(auto, using(crate::proofs::LackLemmas::edit_missing))]
-fn edit_command<'a>(matches: &ArgMatches<'a>, verb: Verb) -> Result<Command<'a>, LineError>
+fn edit_command<'a>(matches: &ArgMatches<'a>, verb: Verb) -> Result<Command<'a>, WordsError>
     requires { IsEdit verb }
     ensures ok { IfOk result (IsCommandOf verb (rows_of (found_of matches.now))) }
     ensures lacks { IfErr result (IsLack verb (rows_of (found_of matches.now))) }
@@ -94,7 +97,7 @@ fn edit_command<'a>(matches: &ArgMatches<'a>, verb: Verb) -> Result<Command<'a>,
 
 /// The user of a command that has one.
 #[tactic(auto, using(crate::proofs::LackLemmas::user_missing))]
-fn user_given(matches: &ArgMatches<'_>, verb: Verb) -> Result<u32, LineError>
+fn user_given(matches: &ArgMatches<'_>, verb: Verb) -> Result<u32, WordsError>
     requires { HasUser verb }
     ensures ok { IfOk result (HasNumber 32 (rows_of (found_of matches.now))
         (name_of ValueName.User)) }
@@ -104,7 +107,7 @@ fn user_given(matches: &ArgMatches<'_>, verb: Verb) -> Result<u32, LineError>
 }
 
 /// What the edit of a command does, with its mode where it changes one.
-fn edit_kind_given(matches: &ArgMatches<'_>, verb: Verb) -> Result<EditKind, LineError>
+fn edit_kind_given(matches: &ArgMatches<'_>, verb: Verb) -> Result<EditKind, WordsError>
     requires { IsEdit verb }
     ensures ok { IfOk result (λ kind. (edit_verb kind ≡ verb)
         × HasMode (rows_of (found_of matches.now)) kind) }
@@ -119,7 +122,7 @@ fn edit_kind_given(matches: &ArgMatches<'_>, verb: Verb) -> Result<EditKind, Lin
     }
 }
 
-fn mode_given(matches: &ArgMatches<'_>) -> Result<Mode, LineError>
+fn mode_given(matches: &ArgMatches<'_>) -> Result<Mode, WordsError>
     ensures ok { IfOk result (λ mode. HasText (rows_of (found_of matches.now))
         (name_of ValueName.Mode) (mode_digits (mode_of mode))) }
     ensures lacks { IfErr result (IsLack Verb.Chmod (rows_of (found_of matches.now))) }
@@ -128,7 +131,7 @@ fn mode_given(matches: &ArgMatches<'_>) -> Result<Mode, LineError>
 }
 
 /// What is to be printed: what stands at a path, or with no path the whole image.
-fn show_command<'a>(matches: &ArgMatches<'a>) -> Result<Command<'a>, LineError>
+fn show_command<'a>(matches: &ArgMatches<'a>) -> Result<Command<'a>, WordsError>
     ensures ok { IfOk result (IsCommandOf Verb.Show (rows_of (found_of matches.now))) }
     ensures lacks { IfErr result (IsLack Verb.Show (rows_of (found_of matches.now))) }
 {
@@ -139,7 +142,7 @@ fn show_command<'a>(matches: &ArgMatches<'a>) -> Result<Command<'a>, LineError>
     }
 }
 
-fn check_command<'a>(matches: &ArgMatches<'a>) -> Result<Command<'a>, LineError>
+fn check_command<'a>(matches: &ArgMatches<'a>) -> Result<Command<'a>, WordsError>
     ensures ok { IfOk result (IsCommandOf Verb.Check (rows_of (found_of matches.now))) }
     ensures lacks { IfErr result (IsLack Verb.Check (rows_of (found_of matches.now))) }
 {
@@ -147,7 +150,7 @@ fn check_command<'a>(matches: &ArgMatches<'a>) -> Result<Command<'a>, LineError>
     Ok(Command::Image(ImageCommand::Check { file }))
 }
 
-fn migrate_command<'a>(matches: &ArgMatches<'a>) -> Result<Command<'a>, LineError>
+fn migrate_command<'a>(matches: &ArgMatches<'a>) -> Result<Command<'a>, WordsError>
     ensures ok { IfOk result (IsCommandOf Verb.Migrate (rows_of (found_of matches.now))) }
     ensures lacks { IfErr result (IsLack Verb.Migrate (rows_of (found_of matches.now))) }
 {
@@ -155,7 +158,7 @@ fn migrate_command<'a>(matches: &ArgMatches<'a>) -> Result<Command<'a>, LineErro
     Ok(Command::Image(ImageCommand::Migrate { file }))
 }
 
-fn log_command<'a>(matches: &ArgMatches<'a>) -> Result<Command<'a>, LineError>
+fn log_command<'a>(matches: &ArgMatches<'a>) -> Result<Command<'a>, WordsError>
     ensures ok { IfOk result (IsCommandOf Verb.Log (rows_of (found_of matches.now))) }
     ensures lacks { IfErr result (IsLack Verb.Log (rows_of (found_of matches.now))) }
 {
@@ -164,7 +167,7 @@ fn log_command<'a>(matches: &ArgMatches<'a>) -> Result<Command<'a>, LineError>
     Ok(Command::Image(ImageCommand::Log { file, lines }))
 }
 
-fn lines_given(matches: &ArgMatches<'_>) -> Result<Option<u64>, LineError>
+fn lines_given(matches: &ArgMatches<'_>) -> Result<Option<u64>, WordsError>
     ensures ok { IfOk result (MayHaveNumber 64 (rows_of (found_of matches.now))
         (name_of ValueName.Lines)) }
     ensures lacks { IfErr result (IsLack Verb.Log (rows_of (found_of matches.now))) }
@@ -175,7 +178,7 @@ fn lines_given(matches: &ArgMatches<'_>) -> Result<Option<u64>, LineError>
     }
 }
 
-fn export_command<'a>(matches: &ArgMatches<'a>) -> Result<Command<'a>, LineError>
+fn export_command<'a>(matches: &ArgMatches<'a>) -> Result<Command<'a>, WordsError>
     ensures ok { IfOk result (IsCommandOf Verb.Export (rows_of (found_of matches.now))) }
     ensures lacks { IfErr result (IsLack Verb.Export (rows_of (found_of matches.now))) }
 {
@@ -204,7 +207,7 @@ fn existing_given(matches: &ArgMatches<'_>) -> Existing
     }
 }
 
-fn import_command<'a>(matches: &ArgMatches<'a>) -> Result<Command<'a>, LineError>
+fn import_command<'a>(matches: &ArgMatches<'a>) -> Result<Command<'a>, WordsError>
     ensures ok { IfOk result (IsCommandOf Verb.Import (rows_of (found_of matches.now))) }
     ensures lacks { IfErr result (IsLack Verb.Import (rows_of (found_of matches.now))) }
 {
@@ -233,7 +236,7 @@ fn on_stranger_given(matches: &ArgMatches<'_>) -> OnStranger
     }
 }
 
-fn reconcile_command<'a>(matches: &ArgMatches<'a>) -> Result<Command<'a>, LineError>
+fn reconcile_command<'a>(matches: &ArgMatches<'a>) -> Result<Command<'a>, WordsError>
     ensures ok { IfOk result (IsCommandOf Verb.Reconcile (rows_of (found_of matches.now))) }
     ensures lacks { IfErr result (IsLack Verb.Reconcile (rows_of (found_of matches.now))) }
 {
@@ -256,7 +259,7 @@ fn reconcile_command<'a>(matches: &ArgMatches<'a>) -> Result<Command<'a>, LineEr
 }
 
 /// Which of the folder and its replica is preferred, where one is.
-fn folder_preference_given(matches: &ArgMatches<'_>) -> Result<Option<Side>, LineError>
+fn folder_preference_given(matches: &ArgMatches<'_>) -> Result<Option<Side>, WordsError>
     ensures ok { IfOk result (MayHaveFolderSide (rows_of (found_of matches.now))) }
     ensures lacks { IfErr result (IsLack Verb.Reconcile (rows_of (found_of matches.now))) }
 {
@@ -266,7 +269,7 @@ fn folder_preference_given(matches: &ArgMatches<'_>) -> Result<Option<Side>, Lin
     }
 }
 
-fn serve_command<'a>(matches: &ArgMatches<'a>) -> Result<Command<'a>, LineError>
+fn serve_command<'a>(matches: &ArgMatches<'a>) -> Result<Command<'a>, WordsError>
     ensures ok { IfOk result (IsCommandOf Verb.Serve (rows_of (found_of matches.now))) }
     ensures lacks { IfErr result (IsLack Verb.Serve (rows_of (found_of matches.now))) }
 {
@@ -284,7 +287,9 @@ fn serve_command<'a>(matches: &ArgMatches<'a>) -> Result<Command<'a>, LineError>
 
 /// The folder that a server keeps the same as its replica, where one is given. Its user is given
 /// with it, and without it neither a user nor seconds.
-fn served_folder_given<'a>(matches: &ArgMatches<'a>) -> Result<Option<FolderCommand<'a>>, LineError>
+fn served_folder_given<'a>(
+    matches: &ArgMatches<'a>,
+) -> Result<Option<FolderCommand<'a>>, WordsError>
     ensures ok { IfOk result (MayHaveFolder (rows_of (found_of matches.now))) }
     ensures lacks { IfErr result (IsLack Verb.Serve (rows_of (found_of matches.now))) }
 {
@@ -293,7 +298,7 @@ fn served_folder_given<'a>(matches: &ArgMatches<'a>) -> Result<Option<FolderComm
     let Some(folder) = optional_text(matches, ValueName::Folder) else {
         return match (user, seconds) {
             (None, None) => Ok(None),
-            _ => Err(LineError::Value(ValueName::Folder)),
+            _ => Err(WordsError::Value(ValueName::Folder)),
         };
     };
     let user = folder_user_given(matches)?;
@@ -306,7 +311,7 @@ fn served_folder_given<'a>(matches: &ArgMatches<'a>) -> Result<Option<FolderComm
 }
 
 /// The user whose edits the changes of a folder are.
-fn folder_user_given(matches: &ArgMatches<'_>) -> Result<u32, LineError>
+fn folder_user_given(matches: &ArgMatches<'_>) -> Result<u32, WordsError>
     requires { IsGiven (rows_of (found_of matches.now)) (name_of ValueName.Folder) }
     ensures ok { IfOk result (HasNumber 32 (rows_of (found_of matches.now))
         (name_of ValueName.User)) }
@@ -315,7 +320,7 @@ fn folder_user_given(matches: &ArgMatches<'_>) -> Result<u32, LineError>
     user(text(matches, ValueName::User)?)
 }
 
-fn connections_given(matches: &ArgMatches<'_>) -> Result<Option<u64>, LineError>
+fn connections_given(matches: &ArgMatches<'_>) -> Result<Option<u64>, WordsError>
     ensures ok { IfOk result (MayHaveNumber 64 (rows_of (found_of matches.now))
         (name_of ValueName.Connections)) }
     ensures lacks { IfErr result (IsLack Verb.Serve (rows_of (found_of matches.now))) }
@@ -326,7 +331,7 @@ fn connections_given(matches: &ArgMatches<'_>) -> Result<Option<u64>, LineError>
     }
 }
 
-fn sync_command<'a>(matches: &ArgMatches<'a>) -> Result<Command<'a>, LineError>
+fn sync_command<'a>(matches: &ArgMatches<'a>) -> Result<Command<'a>, WordsError>
     ensures ok { IfOk result (IsCommandOf Verb.Sync (rows_of (found_of matches.now))) }
     ensures lacks { IfErr result (IsLack Verb.Sync (rows_of (found_of matches.now))) }
 {
@@ -351,7 +356,7 @@ fn sync_command<'a>(matches: &ArgMatches<'a>) -> Result<Command<'a>, LineError>
 }
 
 /// The seconds between two looks, where they are given.
-fn seconds_given(matches: &ArgMatches<'_>, verb: Verb) -> Result<Option<u64>, LineError>
+fn seconds_given(matches: &ArgMatches<'_>, verb: Verb) -> Result<Option<u64>, WordsError>
     requires { TakesSeconds verb }
     ensures ok { IfOk result (MayHaveNumber 64 (rows_of (found_of matches.now))
         (name_of ValueName.Seconds)) }
@@ -363,7 +368,7 @@ fn seconds_given(matches: &ArgMatches<'_>, verb: Verb) -> Result<Option<u64>, Li
     }
 }
 
-fn run_command<'a>(matches: &ArgMatches<'a>) -> Result<Command<'a>, LineError>
+fn run_command<'a>(matches: &ArgMatches<'a>) -> Result<Command<'a>, WordsError>
     ensures ok { IfOk result (IsCommandOf Verb.Run (rows_of (found_of matches.now))) }
     ensures lacks { IfErr result (IsLack Verb.Run (rows_of (found_of matches.now))) }
 {
@@ -379,7 +384,7 @@ fn run_command<'a>(matches: &ArgMatches<'a>) -> Result<Command<'a>, LineError>
 }
 
 /// The side that a session prefers, where one is given.
-fn preference_given(matches: &ArgMatches<'_>, verb: Verb) -> Result<Option<Side>, LineError>
+fn preference_given(matches: &ArgMatches<'_>, verb: Verb) -> Result<Option<Side>, WordsError>
     requires { TakesPreference verb }
     ensures ok { IfOk result (MayHaveSide (rows_of (found_of matches.now))) }
     ensures lacks { IfErr result (IsLack verb (rows_of (found_of matches.now))) }
@@ -390,7 +395,7 @@ fn preference_given(matches: &ArgMatches<'_>, verb: Verb) -> Result<Option<Side>
     }
 }
 
-fn plan_command<'a>(matches: &ArgMatches<'a>) -> Result<Command<'a>, LineError>
+fn plan_command<'a>(matches: &ArgMatches<'a>) -> Result<Command<'a>, WordsError>
     ensures ok { IfOk result (IsCommandOf Verb.Plan (rows_of (found_of matches.now))) }
     ensures lacks { IfErr result (IsLack Verb.Plan (rows_of (found_of matches.now))) }
 {
@@ -410,7 +415,7 @@ fn plan_command<'a>(matches: &ArgMatches<'a>) -> Result<Command<'a>, LineError>
     }))
 }
 
-fn simulate_command<'a>(matches: &ArgMatches<'a>) -> Result<Command<'a>, LineError>
+fn simulate_command<'a>(matches: &ArgMatches<'a>) -> Result<Command<'a>, WordsError>
     ensures ok { IfOk result (IsCommandOf Verb.Simulate (rows_of (found_of matches.now))) }
     ensures lacks { IfErr result (IsLack Verb.Simulate (rows_of (found_of matches.now))) }
 {

@@ -9,7 +9,7 @@ ghost use Rattle.syn_cli.specs.inner.Lacking.{IsLackOf};
 
 use crate::command::Arguments;
 use crate::commands::clap_command;
-use crate::error::LineError;
+use crate::error::WordsError;
 use crate::matched::command_of;
 use crate::value::ValueName;
 use crate::values::is_set;
@@ -22,7 +22,7 @@ use std::alloc::Global;
 ///
 /// What `clap` refuses, the help and the version are `Usage`, and a value that is wrong is told by
 /// its name. Refused memory is `Memory`.
-pub fn read_words<'a>(alloc: Global, words: &'a [&'a str]) -> Result<Arguments<'a>, LineError>
+pub fn read_words<'a>(alloc: Global, words: &'a [&'a str]) -> Result<Arguments<'a>, WordsError>
     ensures ok { IfOk result (λ asked.
         Asks (map (λ word. word.now) words.entry.now) asked.command) }
     ensures verbose { IfOk result (λ asked. IsTrue asked.is_verbose
@@ -56,7 +56,7 @@ pub fn read_words<'a>(alloc: Global, words: &'a [&'a str]) -> Result<Arguments<'
         Err(error) => return Err(told(error)),
     };
     let Some((name, subcommand)) = matches.subcommand() else {
-        return Err(LineError::Value(ValueName::Command));
+        return Err(WordsError::Value(ValueName::Command));
     };
     asked_of(name, subcommand, is_verbose(&matches, subcommand))
 }
@@ -70,14 +70,14 @@ fn is_verbose(matches: &ArgMatches<'_>, subcommand: &ArgMatches<'_>) -> bool
 }
 
 /// What a parse that failed is told as.
-fn told(error: clap::Error) -> LineError
+fn told(error: clap::Error) -> WordsError
     ensures usage { IfUsage result (λ told. (told ≡ error)
         × (kind_of error ≢ ErrorKind.OutOfMemory)) }
     ensures value { ¬ IsValue result }
 {
     match error.kind() {
-        ErrorKind::OutOfMemory => LineError::Memory,
-        _ => LineError::Usage(error),
+        ErrorKind::OutOfMemory => WordsError::Memory,
+        _ => WordsError::Usage(error),
     }
 }
 
@@ -86,14 +86,14 @@ fn asked_of<'a>(
     name: &'a str,
     matches: &ArgMatches<'a>,
     is_verbose: bool,
-) -> Result<Arguments<'a>, LineError>
+) -> Result<Arguments<'a>, WordsError>
     ensures ok { IfOk result (λ asked.
         ReadsRows name.entry.now (rows_of (found_of matches.now)) asked.command) }
     ensures verbose { IfOk result (λ asked. asked.is_verbose ≡ is_verbose) }
     ensures lacks { IfErr result (IsLackOf name.entry.now (rows_of (found_of matches.now))) }
 {
     let Some(verb) = read_verb(name) else {
-        return Err(LineError::Value(ValueName::Command));
+        return Err(WordsError::Value(ValueName::Command));
     };
     let command = command_of(verb, matches)?;
     Ok(Arguments {

@@ -30,6 +30,7 @@ pub struct Import<'a> {
     pub user: u32,
     /// Where in the replica the folder goes.
     pub path: &'a Path,
+    /// What becomes of what can stand in no replica.
     pub on_stranger: OnStranger,
 }
 

@@ -7,20 +7,20 @@ use Rattle.syn_archive.specs.Refusals.{keep_refusal, refusal_of}
 use Rattle.syn_archive.specs.declared.error.ArchiveError.{ArchiveError}
 use Rattle.syn_archive.specs.declared.error.ArchiveError.TheVariants.{NoParent, Root, Full}
 use Rattle.syn_archive.specs.declared.error.ArchiveError.TheVariants.{JournalFull, Halted, Memory}
-use Rattle.syn_archive.specs.declared.keeping.Keeping.{Keeping}
-use Rattle.syn_archive.specs.declared.keeping.Keeping.TheVariants as keeping
+use Rattle.syn_archive.specs.declared.new_record.NewRecord.{NewRecord}
+use Rattle.syn_archive.specs.declared.new_record.NewRecord.TheVariants as added
 
 -- as the model has it, of an archive with this last session
-abbrev pub kept_in : ℕ → Keeping → Kept
-kept_in last keeping.Session = Session (last + 1)
-kept_in last (keeping.Record path marks) = recorded_at path.now marks
-kept_in last (keeping.Dir path) = RecordedDir path.now
+abbrev pub kept_in : ℕ → NewRecord → Kept
+kept_in last added.Session = Session (last + 1)
+kept_in last (added.Record path marks) = recorded_at path.now marks
+kept_in last (added.Dir path) = RecordedDir path.now
 
 -- a directory is recorded where none is
-abbrev pub IsNews : Archive → Keeping → Type 0
-IsNews archive keeping.Session = Unit {0}
-IsNews archive (keeping.Record path marks) = Unit {0}
-IsNews archive (keeping.Dir path) = is_directory archive.marks path.now ≡ false
+abbrev pub IsNews : Archive → NewRecord → Type 0
+IsNews archive added.Session = Unit {0}
+IsNews archive (added.Record path marks) = Unit {0}
+IsNews archive (added.Dir path) = is_directory archive.marks path.now ≡ false
 
 -- a refusal of the marks, or of the room
 abbrev pub is_inner : ArchiveError → Bool

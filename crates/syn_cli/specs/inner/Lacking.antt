@@ -3,8 +3,8 @@ use Rattle.std.specs.Prelude.{◌≡◌, ◌≢◌, ◌⊎◌, List, [], ◌∷�
 use Rattle.clap.specs.Words.{Row, Text, first_of}
 use Rattle.syn_cli.specs.Reads.{HasValues, IsWrong, verb_of}
 use Rattle.syn_cli.specs.Verbs.{name_of, values_of, word_of}
-use Rattle.syn_cli.specs.declared.error.LineError.{LineError}
-use Rattle.syn_cli.specs.declared.error.LineError.TheVariants.{Value}
+use Rattle.syn_cli.specs.declared.error.WordsError.{WordsError}
+use Rattle.syn_cli.specs.declared.error.WordsError.TheVariants.{Value}
 use Rattle.syn_cli.specs.declared.command.Command.{Command}
 use Rattle.syn_cli.specs.declared.value.ValueName.{ValueName}
 use Rattle.syn_cli.specs.declared.value.ValueName.TheVariants as value
@@ -26,7 +26,7 @@ abbrev pub IsLacking : Verb → List Row → ValueName → Type 0
 IsLacking verb rows told = IsMissing verb rows told ⊎ IsWrong verb rows told
 
 -- the error tells a value that the command lacks
-abbrev pub IsLack : Verb → List Row → LineError → Type 0
+abbrev pub IsLack : Verb → List Row → WordsError → Type 0
 IsLack verb rows (Value told) = IsLacking verb rows told
 IsLack verb rows _ = ⊥
 
@@ -38,6 +38,6 @@ abbrev pub LacksIn : Text → List Row → ValueName → Type 0
 LacksIn name rows told = ((told ≡ value.Command) × IsUnknown name)
     ⊎ ((verb : Verb) × (name ≡ word_of verb) × IsLacking verb rows told)
 
-abbrev pub IsLackOf : Text → List Row → LineError → Type 0
+abbrev pub IsLackOf : Text → List Row → WordsError → Type 0
 IsLackOf name rows (Value told) = LacksIn name rows told
 IsLackOf name rows _ = ⊥

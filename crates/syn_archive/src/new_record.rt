@@ -24,7 +24,7 @@ use syn_path::Path;
 
 /// What is to be kept.
 #[derive(Drop)]
-pub(crate) enum Keeping<'a> {
+pub(crate) enum NewRecord<'a> {
     /// The session after the last.
     Session,
     /// The marks at and below the path, or that nothing is there.
@@ -40,15 +40,15 @@ pub(crate) struct Prepared {
     pub(crate) update: Update,
 }
 
-impl Keeping<'_> {
+impl NewRecord<'_> {
     /// How many bytes spell it.
     pub(crate) fn length(&self) -> usize
         ensures { (last : ℕ) → result ≡ length (kept_spelling (kept_in last self.now)) }
     {
         match self {
-            Keeping::Session => SESSION_LENGTH,
-            Keeping::Record(path, marks) => record_length(path, *marks),
-            Keeping::Dir(path) => dir_length(path),
+            NewRecord::Session => SESSION_LENGTH,
+            NewRecord::Record(path, marks) => record_length(path, *marks),
+            NewRecord::Dir(path) => dir_length(path),
         }
     }
 }
@@ -58,23 +58,23 @@ impl Agreed {
     ///
     /// Refused 6 at the root, 2 where the parent is no directory, and 7 where the archive would
     /// pass a limit.
-    pub(crate) fn check(&self, what: &Keeping<'_>) -> Result<(), ArchiveError>
+    pub(crate) fn check(&self, what: &NewRecord<'_>) -> Result<(), ArchiveError>
         requires { IsNews (agreed_archive self.now) what.now }
         ensures refused { refusal_in result ≡ kept_refusal (agreed_archive self.now)
             (kept_in self.now.last_session what.now) }
         ensures inner { IfErr result (λ e. is_inner e ≡ true) }
     {
         match what {
-            Keeping::Session => self.check_session(),
-            Keeping::Record(path, marks) => Ok(self.marks.check_replace(path, *marks)?),
-            Keeping::Dir(path) => Ok(self.marks.check_dir(path)?),
+            NewRecord::Session => self.check_session(),
+            NewRecord::Record(path, marks) => Ok(self.marks.check_replace(path, *marks)?),
+            NewRecord::Dir(path) => Ok(self.marks.check_dir(path)?),
         }
     }
 
     /// Why no session begins: the last number is the greatest (7).
     fn check_session(&self) -> Result<(), ArchiveError>
         ensures refused { refusal_in result ≡ kept_refusal (agreed_archive self.now)
-            (kept_in self.now.last_session Keeping.Session) }
+            (kept_in self.now.last_session NewRecord.Session) }
         ensures inner { IfErr result (λ e. is_inner e ≡ true) }
     {
         if self.last_session == u64::MAX {
@@ -86,7 +86,11 @@ impl Agreed {
 
     /// What can be kept, with its payload and all memory for it. Refused 11 where memory is
     /// refused.
-    pub(crate) fn prepare(&self, alloc: Global, what: Keeping<'_>) -> Result<Prepared, ArchiveError>
+    pub(crate) fn prepare(
+        &self,
+        alloc: Global,
+        what: NewRecord<'_>,
+    ) -> Result<Prepared, ArchiveError>
         requires news { IsNews (agreed_archive self.now) what }
         requires allowed { kept_refusal (agreed_archive self.now)
             (kept_in self.now.last_session what) ≡ None }
@@ -99,13 +103,13 @@ impl Agreed {
         ensures memory { IfErr result (λ e. e ≡ ArchiveError.Memory) }
     {
         match what {
-            Keeping::Session => self.prepare_session(alloc),
-            Keeping::Record(path, marks) => {
+            NewRecord::Session => self.prepare_session(alloc),
+            NewRecord::Record(path, marks) => {
                 let copy = copied_marks(alloc, marks)?;
                 let payload = encode_record(alloc, path, marks)?;
                 self.prepare_marks(alloc, path, copy, payload)
             }
-            Keeping::Dir(path) => {
+            NewRecord::Dir(path) => {
                 let directory = MarkTree::of_mark(alloc, Mark::Dir)?;
                 let payload = encode_dir(alloc, path)?;
                 self.prepare_marks(alloc, path, Some(directory), payload)
@@ -116,9 +120,9 @@ impl Agreed {
     /// The session after the last, with its payload.
     fn prepare_session(&self, alloc: Global) -> Result<Prepared, ArchiveError>
         requires { kept_refusal (agreed_archive self.now)
-            (kept_in self.now.last_session Keeping.Session) ≡ None }
+            (kept_in self.now.last_session NewRecord.Session) ≡ None }
         ensures payload { IfOk result (λ prepared. prepared.payload.items
-            ≡ kept_spelling (kept_in self.now.last_session Keeping.Session)) }
+            ≡ kept_spelling (kept_in self.now.last_session NewRecord.Session)) }
         ensures update { IfOk result
             (λ prepared. prepared.update ≡ Update.Session (self.now.last_session + 1)) }
         ensures memory { IfErr result (λ e. e ≡ ArchiveError.Memory) }
