@@ -73,41 +73,43 @@ module _ (disk : List ℕ) (half : Half) (generation gate : ℕ) (value : Value)
 -- payloads that are appended to a journal
 module _ {D : Type 0} {disk : Ghosts D} (journal : Journal D disk) (more : List (List ℕ))
     (bytes : ℕ) (body : List ℕ) (is : IsBodyOf more bytes body)
-    (fits : journal.gate + bytes < half_size) where
+    (fits : journal.cursor.gate + bytes < half_size) where
   pub append_moments : (value : Value) → Stands journal value → (new : D) →
       LeavesOnly disk.moment disk.left_since journal.disk new
-      (IsStagedOrOpened (disk.seen journal.disk) (start_of journal.half + journal.gate) body) →
+      (IsStagedOrOpened (disk.seen journal.disk) (start_of journal.cursor.half + journal.cursor.gate) body) →
       LeavesOnly disk.moment disk.left_since journal.disk new (IsBeforeOrAfter value
-      journal.generation (with_payloads value more) journal.generation)
+      journal.cursor.generation (with_payloads value more) journal.cursor.generation)
   append_moments value stands new run =
       weakened disk.moment disk.left_since journal.disk new _ _
-      (before_or_after (disk.seen journal.disk) journal.half journal.generation journal.gate value
+      (before_or_after (disk.seen journal.disk) journal.cursor.half journal.cursor.generation journal.cursor.gate value
       (stands_whole journal value stands) more bytes body is fits) run
 
   abbrev pub Opened : List ℕ → Type 0
   Opened after =
-      let gate = start_of journal.half + journal.gate in
+      let gate = start_of journal.cursor.half + journal.cursor.gate in
       after ≡ overwritten (overwritten (disk.seen journal.disk) (gate + 1) body) gate
       (open_gate ∷ [])
 
   pub append_whole : (value : Value) → Stands journal value → (after : List ℕ) → Opened after →
-      IsWhole after journal.half journal.generation (journal.gate + bytes)
+      IsWhole after journal.cursor.half journal.cursor.generation (journal.cursor.gate + bytes)
       (with_payloads value more)
   append_whole value stands after written =
-      rw written (appended (disk.seen journal.disk) journal.half journal.generation journal.gate
+      rw written (appended (disk.seen journal.disk) journal.cursor.half journal.cursor.generation journal.cursor.gate
       value (stands_whole journal value stands) more bytes body is fits)
 
   pub append_in_step : journal.halted ≡ false → (new : D) → Opened (disk.seen new) →
       Only (disk.seen new) (disk.may_leave new) →
-      IsInStep (disk.seen new) (disk.may_leave new) journal.half journal.generation
-      (journal.gate + bytes) journal.other_is_open
-  append_in_step running new written durable =
+      (within : journal.cursor.gate + bytes < half_size) →
+      IsInStep (disk.seen new) (disk.may_leave new)
+      (record (journal.cursor) { gate = journal.cursor.gate + bytes; within = within })
+  append_in_step running new written durable within =
       let step = journal.in_step running in
-      let whole : IsWhole (disk.seen new) journal.half journal.generation (journal.gate + bytes)
+      let cursor = journal.cursor in
+      let whole : IsWhole (disk.seen new) cursor.half cursor.generation (cursor.gate + bytes)
       (with_payloads (value_or_empty (meaning (disk.seen journal.disk))) more) =
-      rw written (appended (disk.seen journal.disk) journal.half journal.generation journal.gate _
+      rw written (appended (disk.seen journal.disk) cursor.half cursor.generation cursor.gate _
       step.whole more bytes body is fits) in
-      in_step (disk.seen new) journal.half journal.generation (journal.gate + bytes) _ whole _
-      journal.other_is_open (ap (λ after. is_open after (other_half journal.half)) written
-      ∙ other_kept (disk.seen journal.disk) journal.half journal.generation journal.gate _
-      step.whole more bytes body is fits ∙ step.other) durable
+      in_step (disk.seen new) _ _ _ whole (ap (λ after. is_open after (other_half cursor.half))
+      written
+      ∙ other_kept (disk.seen journal.disk) cursor.half cursor.generation cursor.gate _ step.whole
+      more bytes body is fits ∙ step.other) durable

@@ -12,6 +12,7 @@ use Rattle.syn_disk.specs.Disk.{Only}
 use Rattle.syn_disk.specs.declared.disk.Disk.{Ghosts}
 use Rattle.syn_disk.specs.declared.disk.TheConstants.{DISK_SIZE}
 use Rattle.syn_journal.specs.Journal.{Stands}
+use Rattle.syn_journal.specs.declared.cursor.JournalCursor.{JournalCursor}
 use Rattle.syn_journal.specs.declared.half.Half.{Half}
 use Rattle.syn_journal.specs.declared.half.Half.TheVariants.{First, Second}
 use Rattle.syn_journal.specs.declared.journal.Journal.{Journal}
@@ -161,20 +162,28 @@ module _ (disk : List ℕ) (half : Half) (generation gate : ℕ) (value : Value)
       }
 
   -- and so for the value that its bytes have
-  pub whole_by_meaning : IsWhole disk half generation gate (value_or_empty (meaning disk))
+  whole_by_meaning : IsWhole disk half generation gate (value_or_empty (meaning disk))
   whole_by_meaning =
       subst (λ v. IsWhole disk half generation gate v) (sym (ap value_or_empty means)) whole
 
-  pub in_step : (may_leave : List ℕ → Type 0) (other_is_open : Bool) →
-      is_open disk (other_half half) ≡ other_is_open → Only disk may_leave →
-      IsInStep disk may_leave half generation gate other_is_open
-  in_step may_leave other_is_open other durable =
-      record { whole = whole_by_meaning; other = other; durable = durable }
+-- the cursor of a disk whose half is whole is in step with it
+pub in_step : (disk : List ℕ) (may_leave : List ℕ → Type 0) (cursor : JournalCursor)
+    (value : Value) → IsWhole disk cursor.half cursor.generation cursor.gate value →
+    is_open disk (other_half cursor.half) ≡ cursor.other_is_open → Only disk may_leave →
+    IsInStep disk may_leave cursor
+in_step disk may_leave cursor value whole other durable =
+    record {
+      whole = whole_by_meaning disk cursor.half cursor.generation cursor.gate value whole;
+      other = other;
+      durable = durable;
+    }
 
 -- the half of a journal is whole, with the value that the journal stands for
 pub stands_whole : {D : Type 0} {disk : Ghosts D} (journal : Journal D disk) (value : Value) →
     Stands journal value →
-    IsWhole (disk.seen journal.disk) journal.half journal.generation journal.gate value
+    IsWhole (disk.seen journal.disk) journal.cursor.half journal.cursor.generation
+    journal.cursor.gate value
 stands_whole {disk = disk} journal value stands =
-    subst (λ v. IsWhole (disk.seen journal.disk) journal.half journal.generation journal.gate v)
+    let cursor = journal.cursor in
+    subst (λ v. IsWhole (disk.seen journal.disk) cursor.half cursor.generation cursor.gate v)
     (ap value_or_empty stands.holds.means) (journal.in_step stands.running).whole

@@ -93,8 +93,8 @@ pub not_written : {D : Type 0} {disk : Ghosts D}
     (only_now : (d : D) (c : List ℕ) → disk.left_since d (disk.moment d) c → disk.may_leave d c)
     (journal : Journal D disk) (value : Value) → Stands journal value → (next : Value) (after : ℕ) →
     LeavesOnly disk.moment disk.left_since journal.disk journal.disk
-    (IsBeforeOrAfter value journal.generation next after)
+    (IsBeforeOrAfter value journal.cursor.generation next after)
 not_written {disk = disk} only_now journal value stands next after =
     started disk.moment disk.left_since journal.disk _
-    (λ c left. inl (subst (λ bytes. HasJournal bytes value journal.generation)
+    (λ c left. inl (subst (λ bytes. HasJournal bytes value journal.cursor.generation)
     (sym (stands.durable c (only_now journal.disk c left))) stands.holds))

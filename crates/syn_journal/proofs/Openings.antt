@@ -256,18 +256,17 @@ module _ (disk : List ℕ) (half : Half) (image : List ℕ) (fits : length image
 
 -- what was read of a disk stands on it still after the reads
 module _ (old new : List ℕ) (found : Contents) (same : new ≡ old)
-    (whole : IsWhole old found.half found.generation found.gate
+    (whole : IsWhole old found.cursor.half found.cursor.generation found.cursor.gate
     (value_read found.image found.records)) where
-  pub read_whole : IsWhole new found.half found.generation found.gate
+  pub read_whole : IsWhole new found.cursor.half found.cursor.generation found.cursor.gate
       (value_read found.image found.records)
   read_whole =
-      subst (λ bytes. IsWhole bytes found.half found.generation found.gate
+      subst (λ bytes. IsWhole bytes found.cursor.half found.cursor.generation found.cursor.gate
       (value_read found.image found.records)) (sym same) whole
 
   pub read_in_step : (may_leave : List ℕ → Type 0) →
-      found.other_is_open ≡ is_open old (other_half found.half) → Only new may_leave →
-      IsInStep new may_leave found.half found.generation found.gate found.other_is_open
+      is_open old (other_half found.cursor.half) ≡ found.cursor.other_is_open →
+      Only new may_leave → IsInStep new may_leave found.cursor
   read_in_step may_leave other durable =
-      in_step new found.half found.generation found.gate _ read_whole may_leave
-      found.other_is_open (ap (λ bytes. is_open bytes (other_half found.half)) same ∙ sym other)
-      durable
+      in_step new may_leave found.cursor _ read_whole
+      (ap (λ bytes. is_open bytes (other_half found.cursor.half)) same ∙ other) durable

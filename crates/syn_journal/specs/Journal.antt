@@ -2,6 +2,7 @@
 use Rattle.std.specs.Prelude.{◌≡◌, ◌<◌, ◌≤◌, ◌+◌, ◌-◌, ℕ, true, false}
 use Rattle.syn_disk.specs.Disk.{Only}
 use Rattle.syn_disk.specs.declared.disk.Disk.{Ghosts}
+use Rattle.syn_journal.specs.declared.cursor.JournalCursor.{JournalCursor}
 use Rattle.syn_journal.specs.declared.half.Half.{Half}
 use Rattle.syn_journal.specs.declared.journal.Journal.{Journal}
 use Rattle.syn_journal.specs.declared.layout.TheConstants.{RECORD_OVERHEAD}
@@ -12,14 +13,14 @@ module _ {D : Type 0} {disk : Ghosts D} (journal : Journal D disk) where
   disk_of = journal.disk
 
   abbrev pub half_of : Half
-  half_of = journal.half
+  half_of = journal.cursor.half
 
   abbrev pub generation_of : ℕ
-  generation_of = journal.generation
+  generation_of = journal.cursor.generation
 
   -- where its next gate stands in the half
   abbrev pub gate_of : ℕ
-  gate_of = journal.gate
+  gate_of = journal.cursor.gate
 
   -- how many bytes are left for records
   abbrev pub left_of : ℕ
@@ -40,6 +41,10 @@ module _ {D : Type 0} {disk : Ghosts D} (journal : Journal D disk) where
   abbrev pub IsHalted : Type 0
   IsHalted = journal.halted ≡ true
 
+  -- it shows what the cursor has
+  abbrev pub Shows : JournalCursor → Type 0
+  Shows cursor = journal.cursor ≡ cursor
+
   -- the value of its disk
   abbrev pub value_of : Value
   value_of = value_or_empty (meaning (disk.seen journal.disk))
@@ -49,15 +54,15 @@ module _ {D : Type 0} {disk : Ghosts D} (journal : Journal D disk) where
 pub record Stands {D : Type 0} {disk : Ghosts D} (journal : Journal D disk)
     (value : Value) : Type 0 where
   pub running : journal.halted ≡ false
-  pub holds : HasJournal (disk.seen journal.disk) value journal.generation
+  pub holds : HasJournal (disk.seen journal.disk) value (generation_of journal)
   pub durable : Only (disk.seen journal.disk) (disk.may_leave journal.disk)
-  pub gate : journal.gate ≡ size_of value
+  pub gate : gate_of journal ≡ size_of value
 
 -- The readings are the same.
 pub record SameReadings {D : Type 0} {disk : Ghosts D} (old new : Journal D disk) : Type 0 where
-  pub half : new.half ≡ old.half
-  pub generation : new.generation ≡ old.generation
-  pub gate : new.gate ≡ old.gate
+  pub half : half_of new ≡ half_of old
+  pub generation : generation_of new ≡ generation_of old
+  pub gate : gate_of new ≡ gate_of old
   pub halted : new.halted ≡ old.halted
 
 -- A journal that is as it was, though its disk was read.

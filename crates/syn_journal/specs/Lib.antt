@@ -2,7 +2,6 @@ pub mod Layout
 pub mod Opened
 pub mod Batches
 pub mod Journal
-pub mod Cursors
 pub mod Refusals
 pub mod Calls
 pub mod Meaning

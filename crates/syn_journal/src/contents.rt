@@ -17,6 +17,7 @@ ghost use Rattle.syn_journal.specs.declared.layout.TheConstants.{IMAGE_LENGTH_AT
 ghost use Rattle.syn_journal.specs.declared.layout.TheConstants.{RECORD_OVERHEAD};
 
 use crate::JournalError;
+use crate::cursor::JournalCursor;
 use crate::half::{HALF_SIZE, Half};
 use crate::layout::{
     IMAGE_AT, IMAGE_LENGTH_AT, LONGEST_IMAGE, OPEN_GATE, RECORD_HEADER, RECORD_OVERHEAD,
@@ -28,10 +29,7 @@ use syn_disk::{DeviceFailed, Disk};
 /// What a disk stands for, and where it stands there.
 #[derive(Drop)]
 pub struct Contents {
-    pub half: Half,
-    pub generation: u64,
-    pub gate: usize,
-    pub other_is_open: bool,
+    pub cursor: JournalCursor,
     pub image: Vec<u8>,
     pub records: Vec<Vec<u8>>,
 }
@@ -39,10 +37,11 @@ pub struct Contents {
 /// Finds out what a disk stands for. It syncs first, so that a stop leaves what is read.
 pub fn read_contents<D: Disk>(alloc: Global, disk: &mut D) -> Result<Contents, JournalError>
     ensures whole { IfOk result
-        (λ found. IsWhole (D.seen disk.old) found.half found.generation found.gate
-        (value_read found.image found.records)) }
+        (λ found. IsWhole (D.seen disk.old) found.cursor.half found.cursor.generation
+        found.cursor.gate (value_read found.image found.records)) }
     ensures other { IfOk result
-        (λ found. found.other_is_open ≡ is_open (D.seen disk.old) (other_half found.half)) }
+        (λ found. is_open (D.seen disk.old) (other_half found.cursor.half)
+        ≡ found.cursor.other_is_open) }
     ensures durable { OnOk result (Only (D.seen disk.new) (D.may_leave disk.new)) }
     ensures refusals { IfErr result (λ refusal. IsOpenRefusal refusal (meaning (D.seen disk.old))) }
     ensures untouched { Untouched D.seen D.may_leave D.moment D.left_since disk.old disk.new }
@@ -55,10 +54,12 @@ pub fn read_contents<D: Disk>(alloc: Global, disk: &mut D) -> Result<Contents, J
     let image = read_image(alloc, disk, half)?;
     let (records, gate) = read_records(alloc, disk, half, IMAGE_AT + image.len())?;
     Ok(Contents {
-        half,
-        generation,
-        gate,
-        other_is_open,
+        cursor: JournalCursor {
+            half,
+            generation,
+            gate,
+            other_is_open,
+        },
         image,
         records,
     })

@@ -55,18 +55,10 @@ pub use reopen::Reopened;
 #[derive(Drop)]
 pub struct Journal<D: Disk> {
     disk: D,
-    /// The current half.
-    half: Half,
-    /// The generation of the current half.
-    generation: u64,
-    /// Where the next gate stands in the current half.
-    gate: usize,
-    /// Whether the other half is open, too.
-    other_is_open: bool,
+    /// Where the value stands on the disk.
+    cursor: JournalCursor,
     halted: bool,
-    ghost within: { gate < half_size },
-    ghost in_step: { halted ≡ false
-        → IsInStep (D.seen disk) (D.may_leave disk) half generation gate other_is_open },
+    ghost in_step: { halted ≡ false → IsInStep (D.seen disk) (D.may_leave disk) cursor },
 }
 
 /// A journal that was opened, and what its disk stands for.
@@ -81,8 +73,7 @@ pub struct Opened<D: Disk> {
 
 impl<D: Disk> Journal<D> {
     ghost use Rattle.syn_journal.specs.Journal.{disk_of, half_of, generation_of, gate_of, room_of};
-    ghost use Rattle.syn_journal.specs.Journal.{value_of, IsTooLong, IsHalted, Stands};
-    ghost use Rattle.syn_journal.specs.Cursors.{Shows};
+    ghost use Rattle.syn_journal.specs.Journal.{value_of, IsTooLong, IsHalted, Shows, Stands};
     ghost use Rattle.syn_journal.specs.Refusals.{CountsFailures, MakesIfDevice, AfterReads};
     ghost use Rattle.syn_journal.specs.Refusals.{IsFormatRefusal, IsOpenRefusal, IsAppendRefusal};
 
@@ -124,10 +115,12 @@ impl<D: Disk> Journal<D> {
         match write_image(&mut disk, &body) {
             Ok(()) => Ok(Journal {
                 disk,
-                half: Half::First,
-                generation: 1,
-                gate: IMAGE_AT + image.len(),
-                other_is_open: false,
+                cursor: JournalCursor {
+                    half: Half::First,
+                    generation: 1,
+                    gate: IMAGE_AT + image.len(),
+                    other_is_open: false,
+                },
                 halted: false,
             }),
             Err(_) => Err((JournalError::Device, disk)),
@@ -170,10 +163,7 @@ impl<D: Disk> Journal<D> {
             Ok(found) => Ok(Opened {
                 journal: Journal {
                     disk,
-                    half: found.half,
-                    generation: found.generation,
-                    gate: found.gate,
-                    other_is_open: found.other_is_open,
+                    cursor: found.cursor,
                     halted: false,
                 },
                 image: found.image,
@@ -194,14 +184,14 @@ impl<D: Disk> Journal<D> {
     pub fn room(&self) -> usize
         ensures { result ≡ room_of self.now }
     {
-        (HALF_SIZE - self.gate).saturating_sub(RECORD_OVERHEAD)
+        (HALF_SIZE - self.cursor.gate).saturating_sub(RECORD_OVERHEAD)
     }
 
     /// The generation of the current half: 1 after `format`.
     pub fn generation(&self) -> u64
         ensures { result ≡ generation_of self.now }
     {
-        self.generation
+        self.cursor.generation
     }
 
     /// Whether each change is refused `Halted`: a device call failed, or `halt` was called, and no
@@ -225,12 +215,7 @@ impl<D: Disk> Journal<D> {
     pub fn cursor(&self) -> JournalCursor
         ensures { Shows self.now result }
     {
-        JournalCursor {
-            half: self.half,
-            generation: self.generation,
-            gate: self.gate,
-            other_is_open: self.other_is_open,
-        }
+        self.cursor
     }
 
     /// Halts the journal as `halt` does, and restores what it showed before a reopening whose
@@ -240,10 +225,7 @@ impl<D: Disk> Journal<D> {
         ensures disk { disk_of self.new ≡ disk_of self.old }
         ensures shows { Shows self.new cursor }
     {
-        self.half = cursor.half;
-        self.generation = cursor.generation;
-        self.gate = cursor.gate;
-        self.other_is_open = cursor.other_is_open;
+        self.cursor = cursor;
         self.halted = true;
     }
 
@@ -303,17 +285,17 @@ impl<D: Disk> Journal<D> {
         if self.halted {
             return Err(JournalError::Halted);
         }
-        if HALF_SIZE - self.gate < RECORD_OVERHEAD
-            || HALF_SIZE - self.gate - RECORD_OVERHEAD < payload.len()
+        if HALF_SIZE - self.cursor.gate < RECORD_OVERHEAD
+            || HALF_SIZE - self.cursor.gate - RECORD_OVERHEAD < payload.len()
         {
             return Err(JournalError::JournalFull);
         }
         let body = record_body(alloc, payload)?;
-        let gate = self.half.start() + self.gate;
+        let gate = self.cursor.half.start() + self.cursor.gate;
         // It is halted if a device call fails.
         self.halted = true;
         commit(&mut self.disk, gate, &body)?;
-        self.gate += RECORD_HEADER + payload.len();
+        self.cursor.gate += RECORD_HEADER + payload.len();
         self.halted = false;
         Ok(())
     }

@@ -69,19 +69,19 @@ impl<D: Disk> Journal<D> {
         if self.halted {
             return Err(JournalError::Halted);
         }
-        let Some(size) = size_within(payloads, HALF_SIZE - 1 - self.gate) else {
+        let Some(size) = size_within(payloads, HALF_SIZE - 1 - self.cursor.gate) else {
             return Err(JournalError::JournalFull);
         };
         if payloads.is_empty() {
             return Ok(());
         }
         let records = records_and_gate(alloc, payloads, size)?;
-        let gate = self.half.start() + self.gate;
+        let gate = self.cursor.half.start() + self.cursor.gate;
         // It is halted if a device call fails.
         self.halted = true;
         // The first gate stays closed until the commit opens it.
         commit(&mut self.disk, gate, &records[1..])?;
-        self.gate += size;
+        self.cursor.gate += size;
         self.halted = false;
         Ok(())
     }

@@ -13,6 +13,7 @@ ghost use Rattle.syn_journal.specs.declared.layout.TheConstants.{IMAGE_AT};
 use super::{Journal, image_body};
 use crate::JournalError;
 use crate::commit::commit;
+use crate::cursor::JournalCursor;
 use crate::half::Half;
 use crate::layout::{IMAGE_AT, LONGEST_IMAGE};
 use std::alloc::Global;
@@ -72,19 +73,20 @@ impl<D: Disk> Journal<D> {
         if self.halted {
             return Err(JournalError::Halted);
         }
-        if image.len() > LONGEST_IMAGE || self.generation == u64::MAX {
+        if image.len() > LONGEST_IMAGE || self.cursor.generation == u64::MAX {
             return Err(JournalError::Full);
         }
-        let generation = self.generation + 1;
-        let body = image_body(alloc, generation, image)?;
-        let other = self.half.other();
+        let next = JournalCursor {
+            half: self.cursor.half.other(),
+            generation: self.cursor.generation + 1,
+            gate: IMAGE_AT + image.len(),
+            other_is_open: true,
+        };
+        let body = image_body(alloc, next.generation, image)?;
         // It is halted if a device call fails.
         self.halted = true;
-        replace(&mut self.disk, other, self.other_is_open, &body)?;
-        self.half = other;
-        self.generation = generation;
-        self.gate = IMAGE_AT + image.len();
-        self.other_is_open = true;
+        replace(&mut self.disk, next.half, self.cursor.other_is_open, &body)?;
+        self.cursor = next;
         self.halted = false;
         Ok(())
     }

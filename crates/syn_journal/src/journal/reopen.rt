@@ -65,10 +65,7 @@ impl<D: Disk> Journal<D> {
     {
         match read_contents(alloc, &mut self.disk) {
             Ok(found) => {
-                self.half = found.half;
-                self.generation = found.generation;
-                self.gate = found.gate;
-                self.other_is_open = found.other_is_open;
+                self.cursor = found.cursor;
                 self.halted = false;
                 Ok(Reopened {
                     image: found.image,

@@ -5,7 +5,7 @@ ghost use Rattle.std.specs.Prelude.{OnOk, MatchResult};
 ghost use Rattle.syn_headline.specs.Machine as model;
 ghost use Rattle.syn_journal.specs.Journal as journal;
 ghost use Rattle.syn_journal.specs.Layout.{Value};
-ghost use Rattle.syn_journal.specs.Cursors.{Shows};
+ghost use Rattle.syn_journal.specs.Journal.{Shows};
 ghost use Rattle.syn_journal.specs.Endings.{Reads, ended};
 ghost use Rattle.syn_journal.specs.Openings.{NotOpened};
 ghost use Rattle.syn_model.specs.Refusal.{Device, Memory};

@@ -19,8 +19,8 @@ one_record g c =
 
 any_moment : (g : Over) (c : After-commit g) (value : Value) → Stands c.args.self.now value →
     LeavesOnly g.D.Disk.moment g.D.Disk.left_since c.args.self.now.disk c.commit.new.disk
-    (IsBeforeOrAfter value c.args.self.now.generation (with_payload value c.args.payload.now)
-    c.args.self.now.generation)
+    (IsBeforeOrAfter value c.args.self.now.cursor.generation (with_payload value c.args.payload.now)
+    c.args.self.now.cursor.generation)
 any_moment g c value stands =
     append_moments c.args.self.now (c.args.payload.now ∷ []) (5 + length c.args.payload.now)
     c.deref.result.now (one_record g c) (omega arith) value stands c.commit.new.disk
@@ -38,26 +38,25 @@ pub returns-clause-acknowledged : goal.returns-clause-acknowledged
 returns-clause-acknowledged g c value stands =
     let journal = c.args.self.now in
     let after = g.D.Disk.seen c.commit.new.disk in
-    let next = journal.gate + (5 + length c.args.payload.now) in
+    let next = journal.cursor.gate + (5 + length c.args.payload.now) in
     let whole = append_whole journal (c.args.payload.now ∷ []) (5 + length c.args.payload.now)
     c.deref.result.now (one_record g (goal.at.returns-clause-acknowledged g c).After-commit)
     (omega arith) value stands after (rw c.start.ensures at c.in_ok-commit.ensures.written) in
     record {
       running = refl;
-      holds = has after journal.half journal.generation next _ whole;
+      holds = has after journal.cursor.half journal.cursor.generation next _ whole;
       durable = c.in_ok-commit.ensures.durable;
-      gate = sizes after journal.half journal.generation next _ whole;
+      gate = sizes after journal.cursor.half journal.cursor.generation next _ whole;
     }
 
-pub invariant_of-self-2 : goal.invariant_of-self-2
-invariant_of-self-2 g c = record {
-  within = omega arith;
+pub invariant_of-self-3 : goal.invariant_of-self-3
+invariant_of-self-3 g c = record {
   in_step =
       λ _. append_in_step c.args.self.now (c.args.payload.now ∷ [])
       (5 + length c.args.payload.now) c.deref.result.now
-      (one_record g (goal.at.invariant_of-self-2 g c).After-commit) (omega arith) c.if-self.false
+      (one_record g (goal.at.invariant_of-self-3 g c).After-commit) (omega arith) c.if-self.false
       c.commit.new.disk (rw c.start.ensures at c.in_ok-commit.ensures.written)
-      c.in_ok-commit.ensures.durable;
+      c.in_ok-commit.ensures.durable _;
 }
 
 pub returns-then-self-clause-any_moment : goal.returns-then-self-clause-any_moment

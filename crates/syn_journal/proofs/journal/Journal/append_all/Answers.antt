@@ -30,8 +30,8 @@ all_records g c =
 
 any_moment : (g : Over) (c : After-commit g) (value : Value) → Stands c.args.self.now value →
     LeavesOnly g.D.Disk.moment g.D.Disk.left_since c.args.self.now.disk c.commit.new.disk
-    (IsBeforeOrAfter value c.args.self.now.generation
-    (with_payloads value (bytes_of_each c.args.payloads.now)) c.args.self.now.generation)
+    (IsBeforeOrAfter value c.args.self.now.cursor.generation
+    (with_payloads value (bytes_of_each c.args.payloads.now)) c.args.self.now.cursor.generation)
 any_moment g c value stands =
     append_moments c.args.self.now (bytes_of_each c.args.payloads.now) c.in-Some.size _
     (all_records g c) (omega (arith, c.in-Some.ensures.fits)) value stands c.commit.new.disk
@@ -49,24 +49,23 @@ pub returns-clause-acknowledged : goal.returns-clause-acknowledged
 returns-clause-acknowledged g c value stands =
     let journal = c.args.self.now in
     let after = g.D.Disk.seen c.commit.new.disk in
-    let next = journal.gate + c.in-Some.size in
+    let next = journal.cursor.gate + c.in-Some.size in
     let whole = append_whole journal (bytes_of_each c.args.payloads.now) c.in-Some.size _
     (all_records g (goal.at.returns-clause-acknowledged g c).After-commit)
     (omega (arith, c.in-Some.ensures.fits)) value stands after
     (rw c.start.ensures at c.in_ok-commit.ensures.written) in
     record {
       running = refl;
-      holds = has after journal.half journal.generation next _ whole;
+      holds = has after journal.cursor.half journal.cursor.generation next _ whole;
       durable = c.in_ok-commit.ensures.durable;
-      gate = sizes after journal.half journal.generation next _ whole;
+      gate = sizes after journal.cursor.half journal.cursor.generation next _ whole;
     }
 
-pub invariant_of-self-2 : goal.invariant_of-self-2
-invariant_of-self-2 g c = record {
-  within = omega (arith, c.in-Some.ensures.fits);
+pub invariant_of-self-3 : goal.invariant_of-self-3
+invariant_of-self-3 g c = record {
   in_step =
       λ _. append_in_step c.args.self.now (bytes_of_each c.args.payloads.now) c.in-Some.size _
-      (all_records g (goal.at.invariant_of-self-2 g c).After-commit)
+      (all_records g (goal.at.invariant_of-self-3 g c).After-commit)
       (omega (arith, c.in-Some.ensures.fits)) c.if-self.false c.commit.new.disk
-      (rw c.start.ensures at c.in_ok-commit.ensures.written) c.in_ok-commit.ensures.durable;
+      (rw c.start.ensures at c.in_ok-commit.ensures.written) c.in_ok-commit.ensures.durable _;
 }

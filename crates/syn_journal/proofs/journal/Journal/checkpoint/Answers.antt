@@ -1,4 +1,4 @@
-use Rattle.std.proofs.Common.{◌≡◌, ◌∙◌, ◌+◌, true, length, refl, ap, sym, subst, arith}
+use Rattle.std.proofs.Common.{◌≡◌, ◌∙◌, ◌+◌, length, refl, ap, sym, subst, arith}
 use Rattle.syn_journal.specs.inner.Commit.{IsNextImage}
 use Rattle.syn_journal.specs.Layout.{Value, other_half, image_alone}
 use Rattle.syn_journal.specs.inner.Whole.{IsWhole}
@@ -12,16 +12,16 @@ use Rattle.syn_journal.proofs.journal.Journal.checkpoint.Goals.{After-replace}
 
 -- what is committed to the other half, where the current one is whole with a value
 next_image : (g : Over) (c : After-replace g) (value : Value) →
-    IsWhole (g.D.Disk.seen c.args.self.now.disk) c.args.self.now.half c.args.self.now.generation
-    c.args.self.now.gate value →
-    IsNextImage (g.D.Disk.seen c.args.self.now.disk) c.other-other.result
-    c.args.self.now.generation c.args.self.now.gate value c.args.image.now c.deref.result.now
+    IsWhole (g.D.Disk.seen c.args.self.now.disk) c.args.self.now.cursor.half c.args.self.now.cursor.generation
+    c.args.self.now.cursor.gate value →
+    IsNextImage (g.D.Disk.seen c.args.self.now.disk) c.other.result
+    c.args.self.now.cursor.generation c.args.self.now.cursor.gate value c.args.image.now c.deref.result.now
 next_image g c value whole =
     let journal = c.args.self.now in
-    let back : other_half c.other-other.result ≡ journal.half =
-    ap other_half c.other-other.ensures ∙ twice journal.half in
+    let back : other_half c.other.result ≡ journal.cursor.half =
+    ap other_half c.other.ensures ∙ twice journal.cursor.half in
     record {
-      whole = subst (λ h. IsWhole (g.D.Disk.seen journal.disk) h journal.generation journal.gate
+      whole = subst (λ h. IsWhole (g.D.Disk.seen journal.disk) h journal.cursor.generation journal.cursor.gate
           value) (sym back) whole;
       spells = c.deref.ensures.value ∙ c.in_ok-body.ensures;
       fits = omega arith;
@@ -42,9 +42,9 @@ returns-clause-any_moment g c value stands =
 
 pub returns-clause-acknowledged : goal.returns-clause-acknowledged
 returns-clause-acknowledged g c =
-    let generation = c.args.self.now.generation in
+    let generation = c.args.self.now.cursor.generation in
     let image = c.args.image.now in
-    let half = c.other-other.result in
+    let half = c.other.result in
     let k = (goal.at.returns-clause-acknowledged g c).After-replace in
     let whole = (c.in_ok-replace.ensures.written _ _ _ image
     (next_image g k _ (c.args.self.now.in_step c.if-self.false).whole)).0 in
@@ -62,10 +62,8 @@ invariant_of-self-2 g c =
     let written = c.in_ok-replace.ensures.written _ _ _ image
     (next_image g k _ (c.args.self.now.in_step c.if-self.false).whole) in
     record {
-      within = omega arith;
       in_step =
-          λ _. in_step _ c.other-other.result (c.args.self.now.generation + 1) (13 + length image)
-          (image_alone image) written.0 _ true written.1 c.in_ok-replace.ensures.durable;
+          λ _. in_step _ _ _ (image_alone image) written.0 written.1 c.in_ok-replace.ensures.durable;
     }
 
 pub returns-then-self-clause-any_moment : goal.returns-then-self-clause-any_moment

@@ -7,7 +7,7 @@ returns-clause-stands g c running =
     let step = journal.in_step running in
     record {
       running = running;
-      holds = has _ journal.half journal.generation journal.gate _ step.whole;
+      holds = has _ journal.cursor.half journal.cursor.generation journal.cursor.gate _ step.whole;
       durable = step.durable;
-      gate = sizes _ journal.half journal.generation journal.gate _ step.whole;
+      gate = sizes _ journal.cursor.half journal.cursor.generation journal.cursor.gate _ step.whole;
     }

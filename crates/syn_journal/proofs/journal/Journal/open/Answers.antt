@@ -7,7 +7,6 @@ pub invariant_of-result : goal.invariant_of-result
 invariant_of-result g c =
     let read = c.in-Ok.ensures in
     record {
-      within = read.whole.within;
       in_step =
           λ _. read_in_step _ _ c.in-Ok.found c.read_contents.ensures.untouched.same read.whole _
           read.other read.durable;
@@ -20,7 +19,7 @@ returns-in-Ok-clause-opened g c =
     let whole = read_whole _ _ found c.read_contents.ensures.untouched.same c.in-Ok.ensures.whole in
     record {
       running = refl;
-      holds = has seen found.half found.generation found.gate _ whole;
+      holds = has seen found.cursor.half found.cursor.generation found.cursor.gate _ whole;
       durable = c.in-Ok.ensures.durable;
-      gate = sizes seen found.half found.generation found.gate _ whole;
+      gate = sizes seen found.cursor.half found.cursor.generation found.cursor.gate _ whole;
     }
