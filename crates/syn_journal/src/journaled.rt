@@ -127,7 +127,7 @@ impl<D: Disk, S: State + Drop> Journaled<D, S> {
             (λ _. state_of self.new ≡ state_of self.old) }
 
         // What it is to the model's machine, also where its device fails or stops.
-        ensures machine { (number : ℕ) (machine : model.Journaled S.Kept S.Added)
+        ensures world { (number : ℕ) (machine : model.Journaled S.Kept S.Added)
             (added : S.Added) → IsMachine (S.kept_as number) self.old machine
             → Adds (S.kept_as number) machine added payload.now (S.makes (state_of self.old) update)
             → WritesRecord (S.kept_as number) self.new machine added (ended S.why result) }
@@ -173,7 +173,7 @@ impl<D: Disk, S: State + Drop> Journaled<D, S> {
         ensures state { state_of self.new ≡ state_of self.old }
 
         // What it is to the model's machine, also where its device fails or stops.
-        ensures machine { (number : ℕ) (machine : model.Journaled S.Kept S.Added)
+        ensures world { (number : ℕ) (machine : model.Journaled S.Kept S.Added)
             → IsMachine (S.kept_as number) self.old machine
             → WritesImage (S.kept_as number) self.new machine (ended S.why result) }
     {

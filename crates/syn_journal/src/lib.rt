@@ -69,7 +69,7 @@
 //!   (`follows`). After any refusal the state is as it was. After 11 the machine goes on, and after
 //!   any other it is halted (`halts`).
 //! - What `write`, `checkpoint` and `reopen` are to the model's machine that keeps the state
-//!   (`IsMachine`) is one clause of each, `machine`: `WritesRecord`, `WritesImage`, `ReadsDisk`;
+//!   (`IsMachine`) is one clause of each, `world`: `WritesRecord`, `WritesImage`, `ReadsDisk`;
 //!   and so what `open` is to one that was down (`Rests`: `Starts`, `RestsStill`). It holds also
 //!   where the device fails, which halts that machine, and where it stops, so that the machine is
 //!   down (`IsDown`). `MayMean` says what its disk may mean then: what the machine keeps; that with

@@ -41,7 +41,7 @@ impl<D: Disk, S: State + Drop> Journaled<D, S> {
             (λ refused. Reads D.Disk (Some (S.why refused.0)) disk refused.1) }
 
         // What it is to the model's machine of the wanted pair, which was down.
-        ensures machine { (number : ℕ) (machine : model.Journaled S.Kept S.Added)
+        ensures world { (number : ℕ) (machine : model.Journaled S.Kept S.Added)
             → wanted ≡ Some number → number < 2 ^ 64
             → Rests D.arms D.may_leave (S.kept_as number).keeping disk machine
             → MatchResult result (λ made. Starts (S.kept_as number) made machine)
@@ -94,7 +94,7 @@ impl<D: Disk, S: State + Drop> Journaled<D, S> {
             (disk_of self.new) }
 
         // What it is to the model's machine, also where its device fails or stops.
-        ensures machine { (number : ℕ) (machine : model.Journaled S.Kept S.Added)
+        ensures world { (number : ℕ) (machine : model.Journaled S.Kept S.Added)
             → IsMachine (S.kept_as number) self.old machine
             → ReadsDisk (S.kept_as number) self.new machine (ended S.why result) }
     {

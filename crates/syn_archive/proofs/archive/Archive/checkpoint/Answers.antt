@@ -88,4 +88,4 @@ returns-clause-world g c number machine is =
     compacts_image c.args.self.now (record { journaled = c.checkpoint.new.self }) number machine
     is _
     (returns-clause-machine g c)
-    (c.checkpoint.ensures.machine number machine (as_machine c.args.self.now number machine is))
+    (c.checkpoint.ensures.world number machine (as_machine c.args.self.now number machine is))

@@ -133,7 +133,7 @@ returns-clause-world g c number machine is =
     keeps_record old (record { journaled = c.write.new.self }) number machine is what
     (not_idle number (shown old) machine.value (session_shown old) c.args.what is.remembers
     c.requires) _ (returns-clause-machine g c)
-    (c.write.ensures.machine number machine what (as_machine old number machine is) (record {
+    (c.write.ensures.world number machine what (as_machine old number machine is) (record {
       can = subst (λ a. CanKeep a what) is.remembers keeps.can;
       spelled = c.deref.ensures.value ∙ c.in_ok-payload.ensures.payload;
       leads = λ state made. record {

@@ -70,4 +70,4 @@ pub returns-clause-world : goal.returns-clause-world
 returns-clause-world g c number machine is =
     let old = c.args.self.now in
     reads_disk old (record { journaled = c.reopen.new.self }) number machine is _
-    (c.reopen.ensures.machine number machine (as_machine old number machine is))
+    (c.reopen.ensures.world number machine (as_machine old number machine is))

@@ -19,8 +19,8 @@ read_there Is it image there same payloads all alike is =
     subst (λ ps. Is there (bytes_of_each ps) it) alike
     (subst (λ i. Is i (bytes_of_each payloads) it) same is)
 
-pub returns-in-Err-clause-machine : goal.returns-in-Err-clause-machine
-returns-in-Err-clause-machine g c number machine wanted fits rests =
+pub returns-in-Err-clause-world : goal.returns-in-Err-clause-world
+returns-in-Err-clause-world g c number machine wanted fits rests =
     rests_still g.D.Disk number (g.S.State.kept_as number) g.S.State.pair g.S.State.gives
     g.S.State.follows
     g.S.State.unread g.S.State.unread_again g.S.State.of_journal g.S.State.why
@@ -34,8 +34,8 @@ returns-in-Err-clause-machine g c number machine wanted fits rests =
       arms = reads_or_breaks c.in-Err.error 1 _ _ c.in-Err.ensures.calls;
     }))
 
-pub returns-in-Ok-read-clause-machine : goal.returns-in-Ok-read-clause-machine
-returns-in-Ok-read-clause-machine g c number machine wanted fits rests =
+pub returns-in-Ok-read-clause-world : goal.returns-in-Ok-read-clause-world
+returns-in-Ok-read-clause-world g c number machine wanted fits rests =
     let value = value_read c.in-Ok.opened.image c.in-Ok.opened.records in
     let stands = c.in-Ok.ensures.opened in
     let means = subst (λ b. meaning b ≡ Ok value) c.in-Ok.ensures.untouched.same
@@ -64,8 +64,8 @@ returns-in-Ok-read-clause-machine g c number machine wanted fits rests =
       arms = c.in-Ok.ensures.calls;
     })
 
-pub returns-clause-machine : goal.returns-clause-machine
-returns-clause-machine g c number machine wanted fits rests =
+pub returns-clause-world : goal.returns-clause-world
+returns-clause-world g c number machine wanted fits rests =
     let value = value_read c.in-Ok.opened.image c.in-Ok.opened.records in
     let means = subst (λ b. meaning b ≡ Ok value) c.in-Ok.ensures.untouched.same
     c.in-Ok.ensures.opened.holds.means in

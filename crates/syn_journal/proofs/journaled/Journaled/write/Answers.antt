@@ -3,8 +3,8 @@ use Rattle.syn_journal.proofs.RecordLemmas.{records}
 use Rattle.syn_journal.proofs.Results.{err_part, ok_part}
 use Rattle.syn_journal.proofs.journaled.Journaled.write.Goals as goal
 
-pub returns-clause-machine : goal.returns-clause-machine
-returns-clause-machine g c number machine added is adds =
+pub returns-clause-world : goal.returns-clause-world
+returns-clause-world g c number machine added is adds =
     records (g.S.State.kept_as number) c.args.self.now c.append_to_journal.new.self
     g.S.State.spelling machine
     added c.args.payload.now (g.S.State.makes (state_of c.args.self.now) c.args.update) is adds

@@ -116,4 +116,4 @@ returns-clause-world g c number machine is =
     (ap (λ m. m.pair) c.checkpoint.ensures.state ∙ is.pair_is) _
     (λ other. runs_up old number machine is
     (λ halted. other (c.checkpoint.ensures.journal.halted.1 halted)))
-    (c.checkpoint.ensures.machine number machine (as_machine old number machine is))
+    (c.checkpoint.ensures.world number machine (as_machine old number machine is))

@@ -64,7 +64,7 @@ returns-then-is_halted-clause-world g c number machine event is adds =
     (ap (λ m. m.pair) c.in-Err.ensures.state ∙ is.pair_is)
     (runs_up old number machine is c.requires.running) (Some (refusal_of c.in-Err.error))
     (λ none. absurd (none-some _ (sym none)))
-    (c.in-Err.ensures.machine number machine event (as_machine old number machine is)
+    (c.in-Err.ensures.world number machine event (as_machine old number machine is)
     (adds_to old number machine is event c.history_laws.ensures.goes_on
     c.history_laws.ensures.steps c.deref.result.now _ c.args.update c.requires.running adds
     c.deref.ensures.value))
@@ -112,7 +112,7 @@ returns-else-is_halted-clause-world g c number machine event is adds =
     (ap (λ m. m.pair) c.in-Err.ensures.state ∙ is.pair_is)
     (runs_up old number machine is c.requires.running) (Some (refusal_of c.in-Err.error))
     (λ none. absurd (none-some _ (sym none)))
-    (c.in-Err.ensures.machine number machine event (as_machine old number machine is)
+    (c.in-Err.ensures.world number machine event (as_machine old number machine is)
     (adds_to old number machine is event c.history_laws.ensures.goes_on
     c.history_laws.ensures.steps c.deref.result.now _ c.args.update c.requires.running adds
     c.deref.ensures.value))
@@ -172,7 +172,7 @@ returns-clause-world g c number machine event is adds =
     (returns-clause-machine g c event adds).written
     (returns-clause-acknowledged g c machine.value event stands adds).1
     (allowed_after _ machine.value event stands.remembers.standing adds.allowed))
-    (written.machine number machine event (as_machine old number machine is)
+    (written.world number machine event (as_machine old number machine is)
     (adds_to old number machine is event c.history_laws.ensures.goes_on
     c.history_laws.ensures.steps c.deref.result.now _ c.args.update c.requires.running adds
     c.deref.ensures.value))

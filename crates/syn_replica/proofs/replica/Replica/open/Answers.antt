@@ -20,9 +20,9 @@ returns-in_err-journaled-clause-wrong_pair g c other =
 
 pub returns-clause-world : goal.returns-clause-world
 returns-clause-world g c number machine wanted fits rests =
-    starts _ number machine (c.in_ok-journaled.ensures.machine number machine wanted fits rests)
+    starts _ number machine (c.in_ok-journaled.ensures.world number machine wanted fits rests)
 
 pub returns-in_err-journaled-clause-world : goal.returns-in_err-journaled-clause-world
 returns-in_err-journaled-clause-world g c number machine wanted fits rests =
     match_of_exit c.from_residual.result c.in_err-journaled.field-0.0 _ _ c.from_residual.ensures.1
-    (c.in_err-journaled.ensures.machine number machine wanted fits rests)
+    (c.in_err-journaled.ensures.world number machine wanted fits rests)

@@ -133,11 +133,11 @@ pub returns-in-Ok-clause-world : goal.returns-in-Ok-clause-world
 returns-in-Ok-clause-world g c number machine is =
     let old = c.args.self.now in
     reads_disk _ number machine (c.in-Ok.ensures.follows.pair ∙ is.pair_is) _
-    (c.in-Ok.ensures.machine number machine (as_machine old number machine is))
+    (c.in-Ok.ensures.world number machine (as_machine old number machine is))
 
 pub returns-in-Err-clause-world : goal.returns-in-Err-clause-world
 returns-in-Err-clause-world g c number machine is =
     let old = c.args.self.now in
     let new : Replica _ _ = record old { journaled = c.reopen.new.self } in
     reads_disk new number machine (ap (λ m. m.pair) c.in-Err.ensures.state ∙ is.pair_is) _
-    (c.in-Err.ensures.machine number machine (as_machine old number machine is))
+    (c.in-Err.ensures.world number machine (as_machine old number machine is))
