@@ -76,12 +76,14 @@ module _ {D : Type 0} {disk : Ghosts D} (journal : Journal D disk) (more : List 
     (fits : journal.cursor.gate + bytes < half_size) where
   pub append_moments : (value : Value) → Stands journal value → (new : D) →
       LeavesOnly disk.moment disk.left_since journal.disk new
-      (IsStagedOrOpened (disk.seen journal.disk) (start_of journal.cursor.half + journal.cursor.gate) body) →
+      (IsStagedOrOpened (disk.seen journal.disk)
+      (start_of journal.cursor.half + journal.cursor.gate) body) →
       LeavesOnly disk.moment disk.left_since journal.disk new (IsBeforeOrAfter value
       journal.cursor.generation (with_payloads value more) journal.cursor.generation)
   append_moments value stands new run =
       weakened disk.moment disk.left_since journal.disk new _ _
-      (before_or_after (disk.seen journal.disk) journal.cursor.half journal.cursor.generation journal.cursor.gate value
+      (before_or_after (disk.seen journal.disk) journal.cursor.half journal.cursor.generation
+      journal.cursor.gate value
       (stands_whole journal value stands) more bytes body is fits) run
 
   abbrev pub Opened : List ℕ → Type 0
@@ -94,7 +96,8 @@ module _ {D : Type 0} {disk : Ghosts D} (journal : Journal D disk) (more : List 
       IsWhole after journal.cursor.half journal.cursor.generation (journal.cursor.gate + bytes)
       (with_payloads value more)
   append_whole value stands after written =
-      rw written (appended (disk.seen journal.disk) journal.cursor.half journal.cursor.generation journal.cursor.gate
+      rw written (appended (disk.seen journal.disk) journal.cursor.half journal.cursor.generation
+      journal.cursor.gate
       value (stands_whole journal value stands) more bytes body is fits)
 
   pub append_in_step : journal.halted ≡ false → (new : D) → Opened (disk.seen new) →

@@ -12,16 +12,19 @@ use Rattle.syn_journal.proofs.journal.Journal.checkpoint.Goals.{After-replace}
 
 -- what is committed to the other half, where the current one is whole with a value
 next_image : (g : Over) (c : After-replace g) (value : Value) →
-    IsWhole (g.D.Disk.seen c.args.self.now.disk) c.args.self.now.cursor.half c.args.self.now.cursor.generation
+    IsWhole (g.D.Disk.seen c.args.self.now.disk) c.args.self.now.cursor.half
+    c.args.self.now.cursor.generation
     c.args.self.now.cursor.gate value →
     IsNextImage (g.D.Disk.seen c.args.self.now.disk) c.other.result
-    c.args.self.now.cursor.generation c.args.self.now.cursor.gate value c.args.image.now c.deref.result.now
+    c.args.self.now.cursor.generation c.args.self.now.cursor.gate value c.args.image.now
+    c.deref.result.now
 next_image g c value whole =
     let journal = c.args.self.now in
     let back : other_half c.other.result ≡ journal.cursor.half =
     ap other_half c.other.ensures ∙ twice journal.cursor.half in
     record {
-      whole = subst (λ h. IsWhole (g.D.Disk.seen journal.disk) h journal.cursor.generation journal.cursor.gate
+      whole = subst (λ h. IsWhole (g.D.Disk.seen journal.disk) h journal.cursor.generation
+          journal.cursor.gate
           value) (sym back) whole;
       spells = c.deref.ensures.value ∙ c.in_ok-body.ensures;
       fits = omega arith;
@@ -63,7 +66,8 @@ invariant_of-self-2 g c =
     (next_image g k _ (c.args.self.now.in_step c.if-self.false).whole) in
     record {
       in_step =
-          λ _. in_step _ _ _ (image_alone image) written.0 written.1 c.in_ok-replace.ensures.durable;
+          λ _. in_step _ _ _ (image_alone image) written.0 written.1
+          c.in_ok-replace.ensures.durable;
     }
 
 pub returns-then-self-clause-any_moment : goal.returns-then-self-clause-any_moment
