@@ -4,6 +4,7 @@ use Rattle.std.proofs.Common.{Option, Some, None, refl, sym, ap, ◌∙◌, subs
 use Rattle.std.proofs.lemmas.Option.{none-some}
 use Rattle.syn_archive.specs.declared.archive.Archive.{Archive}
 use Rattle.syn_disk.specs.declared.disk.Disk.{Ghosts}
+use Rattle.syn_journal.specs.Journal.{gate_of}
 use Rattle.syn_headline.specs.Coordinator.{Keeps, archive_layout, cut_after, writes}
 use Rattle.std.proofs.lemmas.Bool.Decides.{nat_tests}
 use Rattle.syn_archive.specs.Archive.{left_shown, room_shown}
@@ -75,7 +76,7 @@ compact_writes pair machine journal (not_compacted status arms failures is meets
 -- the longest payload that fits is five bytes shorter than what is left
 pub room_left : {D : Type 0} {disk : Ghosts D} (archive : Archive D disk) →
     room_shown archive ≡ left_shown archive - 5
-room_left archive = by archive.journaled.journal.gate
+room_left archive = by (gate_of archive.journaled.journal)
   where
     by : (gate : ℕ) → 4194304 - gate - 6 ≡ 4194304 - 1 - gate - 5
     by gate = omega arith
