@@ -2,7 +2,7 @@
 ghost use Rattle.syn_message.specs.Replies.{IsLawfulReply, reply_of};
 ghost use Rattle.syn_message.specs.Requests.{request_of};
 ghost use Rattle.syn_message.specs.UserReplies.{IsLawfulUserReply, user_reply_of};
-ghost use Rattle.syn_message.specs.Users.{UserRequest, user_request_of};
+ghost use Rattle.syn_message.specs.Users.{Edits, Gets, user_request_of};
 ghost use Rattle.syn_serve.specs.Holds.{AnswersAlone, Grants, Responds};
 ghost use Rattle.syn_serve.specs.Messages.{IsLawfulMessage, IsLawfulResponse, message_of};
 ghost use Rattle.syn_serve.specs.Messages.{response_of};
@@ -121,7 +121,7 @@ fn answer_edit<H: Wait, D: Disk>(
 ) -> UserReply
     requires { IsFor shared.now pass.old }
     ensures of { IsFor shared.now pass.new }
-    ensures held { Grants shared.now pass.old pass.new (UserRequest.Edits user (edit_of edit))
+    ensures held { Grants shared.now pass.old pass.new (Edits user (edit_of edit))
         (user_reply_of result) }
     ensures lawful { IsLawfulUserReply (user_reply_of result) }
     ensures later { IsLater shared.now pass.old pass.new }
@@ -142,7 +142,7 @@ fn answer_get<H: Wait, D: Disk>(
 ) -> UserReply
     requires { IsFor shared.now pass.old }
     ensures of { IsFor shared.now pass.new }
-    ensures held { Grants shared.now pass.old pass.new (UserRequest.Gets path.now)
+    ensures held { Grants shared.now pass.old pass.new (Gets path.now)
         (user_reply_of result) }
     ensures lawful { IsLawfulUserReply (user_reply_of result) }
     ensures later { IsLater shared.now pass.old pass.new }

@@ -1,7 +1,8 @@
 //! A user's connection, and the requests over it.
 ghost use Rattle.std.specs.Prelude.{◌≡◌, [], Err, IfErr, IfOk, false, option_map, true};
 ghost use Rattle.syn_message.specs.UserReplies.{Edited, Got, user_reply_of};
-ghost use Rattle.syn_message.specs.Users.{Edits, Gets, IsLawfulUserRequestMessage, UserRequest};
+ghost use Rattle.syn_message.specs.Users.{Edits, Gets, IsLawfulUserRequestMessage};
+ghost use Rattle.syn_message.specs.Users.{UserRequest as Asked};
 ghost use Rattle.syn_message.specs.Users.{user_request_of, user_request_message_of};
 ghost use Rattle.syn_tree.specs.Contents.{content_of};
 ghost use Rattle.syn_tree.specs.Edits.{edit_of};
@@ -109,8 +110,8 @@ impl<R: Read, W: Write> UserConnection<R, W> {
 
     /// Closes the connection for lack of memory; of a closed one the refusal is 9.
     fn give_up(&mut self) -> UserError
-        ensures { (wish : UserRequest) → Fails (state_of R.remaining W.contents self.old)
-            (state_of R.remaining W.contents self.new) wish result }
+        ensures { (request : Asked) → Fails (state_of R.remaining W.contents self.old)
+            (state_of R.remaining W.contents self.new) request result }
     {
         if !self.open {
             return UserError::Device;
