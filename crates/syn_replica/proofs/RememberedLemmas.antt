@@ -1,6 +1,7 @@
 -- What an image and payloads give a replica to remember.
 use Rattle.std.proofs.Common.{◌≡◌, ◌<◌, ◌^◌, ◌∙◌, ℕ, List, Option, Some, None, ap, ap₂, sym, inl}
-use Rattle.std.proofs.Common.{inr, refl, arith}
+use Rattle.std.proofs.Common.{inr, refl, arith, Result, Ok, Err}
+use Rattle.std.specs.Prelude.{IfErr}
 use Rattle.std.proofs.lemmas.Option.{none-some, same_Some}
 use Rattle.syn_model.specs.Image.{IsOldImage}
 use Rattle.syn_model.specs.Path.{Bytes}
@@ -25,35 +26,41 @@ same_memory a b pair standing =
 
 -- ---- why nothing is read
 
-pub unread : (e : ReplicaError) (wanted : Option ℕ) (image : Bytes) (payloads : List Bytes) →
-    ¬ IsOldImage image → IsOfMeaning e → (e ≡ Damaged → GivesNothing image payloads) →
-    (e ≡ WrongPair → GivesOtherPair wanted image payloads) → IsUnread e wanted image payloads
-unread (Tree e) wanted image payloads young h damaged other = absurd h
-unread (History e) wanted image payloads young h damaged other = absurd h
-unread (Journal e) wanted image payloads young h damaged other = absurd h
-unread Memory wanted image payloads young h damaged other = tt
-unread Touched wanted image payloads young h damaged other = absurd h
-unread OldSession wanted image payloads young h damaged other = absurd h
-unread Damaged wanted image payloads young h damaged other = (young, damaged refl)
-unread WrongPair wanted image payloads young h damaged other = other refl
-unread OldVersion wanted image payloads young h damaged other = absurd h
+pub unread : (read : Result Remembered ReplicaError) (wanted : Option ℕ) (image : Bytes)
+    (payloads : List Bytes) → ¬ IsOldImage image → IfErr read IsOfMeaning →
+    IfErr read (λ e. e ≡ Damaged → GivesNothing image payloads) →
+    IfErr read (λ e. e ≡ WrongPair → GivesOtherPair wanted image payloads) →
+    IfErr read (λ e. IsUnread e wanted image payloads)
+unread (Ok memory) wanted image payloads young h damaged other = tt
+unread (Err (Tree e)) wanted image payloads young h damaged other = absurd h
+unread (Err (History e)) wanted image payloads young h damaged other = absurd h
+unread (Err (Journal e)) wanted image payloads young h damaged other = absurd h
+unread (Err Memory) wanted image payloads young h damaged other = tt
+unread (Err Touched) wanted image payloads young h damaged other = absurd h
+unread (Err OldSession) wanted image payloads young h damaged other = absurd h
+unread (Err Damaged) wanted image payloads young h damaged other = (young, damaged refl)
+unread (Err WrongPair) wanted image payloads young h damaged other = other refl
+unread (Err OldVersion) wanted image payloads young h damaged other = absurd h
 
 asked_none : {asked : ℕ} → None ≡ Some asked → ⊥
 asked_none is = none-some _ is
 
-pub unread_old : (e : ReplicaError) (image : Bytes) (payloads : List Bytes) → IsOfMeaning e →
-    (e ≡ Damaged → GivesNothingIn One image payloads) →
-    (e ≡ WrongPair → GivesOtherPairIn One None image payloads) →
-    IsUnreadOld e image payloads
-unread_old (Tree e) image payloads h damaged other = absurd h
-unread_old (History e) image payloads h damaged other = absurd h
-unread_old (Journal e) image payloads h damaged other = absurd h
-unread_old Memory image payloads h damaged other = tt
-unread_old Touched image payloads h damaged other = absurd h
-unread_old OldSession image payloads h damaged other = absurd h
-unread_old Damaged image payloads h damaged other = damaged refl
-unread_old WrongPair image payloads h damaged other = absurd (asked_none (other refl).wanted_is)
-unread_old OldVersion image payloads h damaged other = absurd h
+pub unread_old : (read : Result Remembered ReplicaError) (image : Bytes)
+    (payloads : List Bytes) → IfErr read IsOfMeaning →
+    IfErr read (λ e. e ≡ Damaged → GivesNothingIn One image payloads) →
+    IfErr read (λ e. e ≡ WrongPair → GivesOtherPairIn One None image payloads) →
+    IfErr read (λ e. IsUnreadOld e image payloads)
+unread_old (Ok memory) image payloads h damaged other = tt
+unread_old (Err (Tree e)) image payloads h damaged other = absurd h
+unread_old (Err (History e)) image payloads h damaged other = absurd h
+unread_old (Err (Journal e)) image payloads h damaged other = absurd h
+unread_old (Err Memory) image payloads h damaged other = tt
+unread_old (Err Touched) image payloads h damaged other = absurd h
+unread_old (Err OldSession) image payloads h damaged other = absurd h
+unread_old (Err Damaged) image payloads h damaged other = damaged refl
+unread_old (Err WrongPair) image payloads h damaged other =
+    absurd (asked_none (other refl).wanted_is)
+unread_old (Err OldVersion) image payloads h damaged other = absurd h
 
 pub no_next : (e : ReplicaError) (memory : Remembered) (image : Bytes) (payloads : List Bytes) →
     IsOfMeaning e → (e ≡ Damaged → GivesNothing image payloads) →

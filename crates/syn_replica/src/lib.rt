@@ -77,8 +77,8 @@
 //!   cause stands (`allowed`). `make` takes the standing one step on, and takes no memory.
 //! - `check_untouched` tells whether an event touched a path since a position, of each history that
 //!   the standing is of (`cause`).
-//! - `read_replica` reads in a version, and gives the pair and the standing that an image and the
-//!   payloads after it give in it (`gives`). No other could be given (`one`), and an image may
+//! - An opening reads in a version (`read_replica`): the pair and the standing that an image and
+//!   the payloads after it give in it (`gives`). No other could be given (`one`), and an image may
 //!   hold it (`sound`). It is refused 19 only where they give none (`damaged`), and 20 only where
 //!   they give another pair than the wanted one (`other`). The index of its trail is built once,
 //!   after the last payload (`build_index`).
@@ -98,6 +98,6 @@ mod standing;
 pub use error::ReplicaError;
 pub use lawful::disk_laws;
 pub use laws::opening_laws;
-pub use reading::{read_event, read_image, read_replica};
+pub use reading::{read_event, read_image};
 pub use replica::{Listing, Piece, ROOM_FOR_EDITS, Replica, TokenStatus};
 pub use standing::{Standing, Update};

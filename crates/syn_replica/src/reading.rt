@@ -19,6 +19,7 @@ ghost use Rattle.syn_replica.specs.Readings.{IsOfMeaning, IsOfPayload, IsImageOf
 
 use crate::error::ReplicaError;
 use crate::laws::opening_laws;
+use crate::remembered::Remembered;
 use crate::standing::Standing;
 use std::alloc::Global;
 use syn_history::Event;
@@ -26,7 +27,7 @@ use syn_image::{ReplicaImage, decode_replica, image_laws, is_other_pair};
 use syn_refusal::Refusal;
 use syn_wire::{Version, WireError, decode_event, spelling_laws};
 
-/// The pair and the standing that the image and the payloads give, all spelled in the version.
+/// What the image and the payloads give to remember, all spelled in the version.
 ///
 /// Refused 19 where they give none, 20 where they do but the pair is not the wanted one, and 11
 /// where memory is refused.
@@ -36,16 +37,16 @@ pub fn read_replica(
     image: &[u8],
     wanted: Option<u64>,
     payloads: &[Vec<u8>],
-) -> Result<(u64, Standing), ReplicaError>
-    ensures fits { IfOk result (λ read. read.0 < 2 ^ 64) }
-    ensures gives { IfOk result (λ read. GivesIn (version_of version) read.0 image.now
-        (bytes_of_each payloads.now) read.1) }
-    ensures one { IfOk result (λ read. (pair : ℕ) (standing : model_standing.Standing)
-        → pair < 2 ^ 64
-        → GivesIn (version_of version) pair image.now (bytes_of_each payloads.now) standing
-        → (pair ≡ read.0) × (standing ≡ read.1)) }
-    ensures sound { IfOk result (λ read. IsStanding read.1) }
-    ensures wanted { IfOk result (λ read. (asked : ℕ) → wanted ≡ Some asked → asked ≡ read.0) }
+) -> Result<Remembered, ReplicaError>
+    ensures fits { IfOk result (λ read. read.pair < 2 ^ 64) }
+    ensures gives { IfOk result (λ read. GivesIn (version_of version) read.pair image.now
+        (bytes_of_each payloads.now) read.standing) }
+    ensures one { IfOk result (λ read. (other : Remembered) → other.pair < 2 ^ 64
+        → GivesIn (version_of version) other.pair image.now (bytes_of_each payloads.now)
+        other.standing → other ≡ read) }
+    ensures sound { IfOk result (λ read. IsStanding read.standing) }
+    ensures wanted { IfOk result (λ read. (asked : ℕ) → wanted ≡ Some asked
+        → asked ≡ read.pair) }
     ensures refusals { IfErr result IsOfMeaning }
     ensures damaged { IfErr result (λ e. e ≡ ReplicaError.Damaged
         → (pair : ℕ) (standing : model_standing.Standing) → pair < 2 ^ 64
@@ -64,7 +65,7 @@ pub fn read_replica(
     if is_other_pair(wanted, pair) {
         return Err(ReplicaError::WrongPair);
     }
-    Ok((pair, standing))
+    Ok(Remembered { pair, standing })
 }
 
 /// What its type says: its tree is one, within the limits of a replica.

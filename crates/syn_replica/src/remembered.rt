@@ -9,7 +9,8 @@ ghost use Rattle.syn_replica.specs.declared.error.ReplicaError.TheVariants.{Jour
 ghost use Rattle.syn_replica.specs.inner.Memories.{Gives, GivesOld, IsUnread, IsUnreadOld};
 ghost use Rattle.syn_replica.specs.inner.Memories.{IsUnreadAgain, MayFollow, StepsBy, kept_as};
 
-use crate::{ReplicaError, Standing, Update, opening_laws, read_replica};
+use crate::reading::read_replica;
+use crate::{ReplicaError, Standing, Update, opening_laws};
 use std::alloc::Global;
 use syn_image::{encode_replica, is_old_replica};
 use syn_journal::{JournalError, State};
@@ -88,8 +89,7 @@ impl State for Remembered {
         if is_old_replica(image) {
             return Err(ReplicaError::OldVersion);
         }
-        let (pair, standing) = read_replica(alloc, Version::Two, image, wanted, payloads)?;
-        Ok(Remembered { pair, standing })
+        read_replica(alloc, Version::Two, image, wanted, payloads)
     }
 
     fn read_old(
@@ -97,8 +97,7 @@ impl State for Remembered {
         image: &[u8],
         payloads: &[Vec<u8>],
     ) -> Result<Remembered, ReplicaError> {
-        let (pair, standing) = read_replica(alloc, Version::One, image, None, payloads)?;
-        Ok(Remembered { pair, standing })
+        read_replica(alloc, Version::One, image, None, payloads)
     }
 
     /// Refused 19 too where they are of another pair, and where they give fewer events than are
@@ -111,14 +110,14 @@ impl State for Remembered {
     ) -> Result<Remembered, ReplicaError> {
         opening_laws();
         is_long(self.pair);
-        let (pair, standing) = read_replica(alloc, Version::Two, image, None, payloads)?;
-        if pair != self.pair {
+        let read = read_replica(alloc, Version::Two, image, None, payloads)?;
+        if read.pair != self.pair {
             return Err(ReplicaError::Damaged);
         }
-        if standing.trail().position() < self.standing.trail().position() {
+        if read.standing.trail().position() < self.standing.trail().position() {
             return Err(ReplicaError::Damaged);
         }
-        Ok(Remembered { pair, standing })
+        Ok(read)
     }
 
     fn make(&mut self, update: Update) {

@@ -4,6 +4,7 @@ use Rattle.syn_model.specs.Standing.{AllAllowedIn}
 use Rattle.syn_wire.specs.Versions.{version_of}
 use Rattle.syn_replica.specs.Readings.{IsImageOf, bytes_of_each}
 use Rattle.syn_replica.proofs.ReadingLemmas.{gives_of, same_image, memory_else}
+use Rattle.syn_replica.proofs.RememberedLemmas.{same_memory}
 use Rattle.syn_model.proofs.SoundStandings.{stays_sound}
 use Rattle.syn_replica.proofs.reading.read_replica.Goals as goal
 
@@ -41,15 +42,16 @@ returns-in_err-standing-clause-damaged c =
     gives.payloads_are)
 
 pub returns-clause-one : goal.returns-clause-one
-returns-clause-one c pair standing fits gives =
+returns-clause-one c other fits gives =
     let is = subst (IsImageOf (version_of c.args.version) c.args.image.now
     c.in_ok-pair.field-0.pair) (sym c.of-first.ensures) c.in_ok-pair.ensures.read in
     let version = version_of c.args.version in
     let payloads = bytes_of_each c.args.payloads.now in
-    c.opening_laws.ensures.one version c.args.image.now payloads pair c.in_ok-pair.field-0.pair
-    standing c.in_ok-standing.standing fits is.fits gives
+    let same = c.opening_laws.ensures.one version c.args.image.now payloads other.pair
+    c.in_ok-pair.field-0.pair other.standing c.in_ok-standing.standing fits is.fits gives
     (gives_of version c.args.image.now payloads c.in_ok-pair.field-0.pair c.of-first.result
-    c.in_ok-standing.standing is c.in_ok-standing.ensures.replays)
+    c.in_ok-standing.standing is c.in_ok-standing.ensures.replays) in
+    same_memory other _ same.0 same.1
 
 pub returns-in_err-standing-clause-wrong_pair : goal.returns-in_err-standing-clause-wrong_pair
 returns-in_err-standing-clause-wrong_pair c other =

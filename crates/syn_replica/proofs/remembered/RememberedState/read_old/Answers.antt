@@ -1,19 +1,15 @@
-use Rattle.syn_model.proofs.ExitLemmas.{if_err_of_exit}
+use Rattle.std.proofs.lemmas.Result.{IfOk-weaker}
 use Rattle.syn_replica.specs.Readings.{bytes_of_each}
-use Rattle.syn_replica.specs.inner.Memories.{IsUnreadOld}
-use Rattle.syn_replica.proofs.RememberedLemmas.{same_memory, unread_old}
+use Rattle.syn_replica.proofs.RememberedLemmas.{unread_old}
 use Rattle.syn_replica.proofs.remembered.RememberedState.read_old.Goals as goal
 
 pub returns-clause-one : goal.returns-clause-one
-returns-clause-one c other fits given =
-    let same = c.in_ok-pair.ensures.one other.pair other.standing fits given.0 in
-    same_memory other _ same.0 same.1
+returns-clause-one c =
+    IfOk-weaker c.read_replica.result _ _ (λ read one other fits given. one other fits given.0)
+    c.read_replica.ensures.one
 
-pub returns-in_err-pair-clause-unread : goal.returns-in_err-pair-clause-unread
-returns-in_err-pair-clause-unread c =
-    let e = c.in_err-pair.field-0.0 in
-    let told = c.in_err-pair.ensures in
-    let payloads = bytes_of_each c.args.payloads.now in
-    if_err_of_exit c.from_residual.result e (λ e. IsUnreadOld e c.args.image.now payloads)
-    c.from_residual.ensures.1
-    (unread_old e c.args.image.now payloads told.refusals told.damaged told.other)
+pub returns-clause-unread : goal.returns-clause-unread
+returns-clause-unread c =
+    let told = c.read_replica.ensures in
+    unread_old c.read_replica.result c.args.image.now (bytes_of_each c.args.payloads.now)
+    told.refusals told.damaged told.other
