@@ -1,8 +1,8 @@
 -- Why a replacement is refused, as it is found out step by step.
 use Rattle.std.proofs.Common.{◌≡◌, ◌≢◌, ◌==◌, ◌⊎◌, inr, ℕ, Bool, false, true, not, nat_lt, nat_le}
 use Rattle.std.proofs.Common.{if◌then◌else◌, List, [], ◌∷◌, ◌++◌, length, refl, sym, ap, ap₂, ◌∙◌}
-use Rattle.std.proofs.Common.{subst, Option, Some, None, append_assoc, arith, ◌+◌, Result, Ok, Err}
-use Rattle.std.specs.Prelude.{IfOk, IfErr, IsErrAnd, IfSome}
+use Rattle.std.proofs.Common.{Option, Some, None, append_assoc, arith, ◌+◌, Result, Ok, Err}
+use Rattle.std.specs.Prelude.{IfOk, IfErr, IsErrAnd}
 use Rattle.std.proofs.lemmas.List.{length-append}
 use Rattle.std.proofs.lemmas.Bool.{eq-eqb, eqb-true}
 use Rattle.std.proofs.lemmas.Bool.Decides.{nat_tests}
@@ -11,7 +11,7 @@ use Rattle.syn_model.proofs.ExitLemmas.{if_err_of_exit, is_err_of_exit}
 use Rattle.syn_model.specs.Path.{Path}
 use Rattle.syn_model.specs.Tree.{Tree, replace}
 use Rattle.syn_model.specs.Event.{Token, Event, Began, Replaced}
-use Rattle.syn_model.specs.Refusal.{Refusal, Memory, JournalFull, OldSession, WrongPair, Cause}
+use Rattle.syn_model.specs.Refusal.{Refusal, JournalFull, OldSession, WrongPair, Cause}
 use Rattle.syn_model.specs.Refusal.{first_cause}
 use Rattle.syn_model.specs.Spelling.{event_spelling}
 use Rattle.syn_model.specs.Standing.{Standing, causes_at, is_old, place_causes, full_causes}
@@ -22,7 +22,7 @@ use Rattle.syn_replica.specs.Refusals.{IsOneOf, outside_refusals}
 use Rattle.syn_replica.specs.Steps.{add_refusal, room_causes, replace_refusal, begin_refusal}
 use Rattle.syn_replica.specs.Steps.{begin_refusal_at}
 use Rattle.syn_replica.specs.Steps.{is_done, replaced, begun}
-use Rattle.syn_replica.specs.inner.Additions.{MayReplace, add_refusal_at}
+use Rattle.syn_replica.specs.inner.Additions.{add_refusal_at}
 use Rattle.syn_replica.specs.Causes.{since_causes}
 use Rattle.syn_replica.specs.ErrorRefusals.{refusal_of}
 use Rattle.syn_tree.specs.Lists.{replace_refusal as tree_refusal}
@@ -30,10 +30,6 @@ use Rattle.syn_replica.specs.declared.error.ReplicaError.{ReplicaError}
 use Rattle.syn_model.proofs.HistoryLemmas.{first_skips, first_stays}
 use Rattle.syn_replica.proofs.RoomLemmas.{last_false}
 use Rattle.syn_replica.proofs.SinceLemmas.{first_false}
-
--- what a clause says of a value that is there
-pub in_some : {X : Type 0} (P : X → Type 0) (o : Option X) (x : X) → IfSome o P → o ≡ Some x → P x
-in_some P o x h e = subst (λ o. IfSome o P) e h
 
 -- ---- the causes of a replacement in a row
 
@@ -74,7 +70,7 @@ module _ (room : ℕ) (history : History) (token : Token) (path : Path) (since :
       ((place ++ (full ++ position)) ++ last) current))
 
   -- and so of what a replica remembers, with a copy of the path
-  replaced_as : (standing : Standing) (copy : Path) → standing ≡ standing_of history →
+  pub replaced_as : (standing : Standing) (copy : Path) → standing ≡ standing_of history →
       copy ≡ path → is_old standing.session standing.token token ≡ false →
       first_cause (since_causes history path since) ≡ None →
       add_refusal_at room standing (Replaced token copy since new)
@@ -83,17 +79,6 @@ module _ (room : ℕ) (history : History) (token : Token) (path : Path) (since :
       ap (λ s. add_refusal_at room s (Replaced token copy since new)) same
       ∙ (ap (λ q. add_refusal room history (Replaced token q since new)) is
       ∙ sym (replaced_rest (ap (λ s. is_old s.session s.token token) (sym same) ∙ current) none))
-
-  -- and so with the path that was found
-  pub found_as : (given : Tree) (standing : Standing) (found : Option Path) (copy : Path) →
-      standing ≡ standing_of history →
-      IfSome found (λ q. (q ≡ path) × MayReplace standing token given) →
-      IfSome found (λ q. first_cause (since_causes history path since) ≡ None) →
-      found ≡ Some copy → add_refusal_at room standing (Replaced token copy since new)
-      ≡ replace_refusal room history token path since new
-  found_as given standing found copy same may untouched is =
-      let put = in_some _ found copy may is in
-      replaced_as standing copy same put.0 put.1.not_old (in_some _ found copy untouched is)
 
   -- where the tree refuses what is put, that is answered
   refused_place : is_old_token history token ≡ false →
@@ -112,14 +97,14 @@ module _ (room : ℕ) (history : History) (token : Token) (path : Path) (since :
       (standing : Standing) (tree : Tree) (old : Bool) → IsErrAnd r (λ x. x ≡ e) →
       standing ≡ standing_of history → old ≡ is_old standing.session standing.token token →
       old ≡ false → None ≡ first_cause (since_causes history path since) → tree ≡ standing.tree →
-      tree_refusal tree path new ≡ Some (refusal_of e) → IfErr r (λ e. (refusal_of e ≡ Memory)
-      ⊎ (replace_refusal room history token path since new ≡ Some (refusal_of e)))
+      tree_refusal tree path new ≡ Some (refusal_of e) →
+      IfErr r (λ e. replace_refusal room history token path since new ≡ Some (refusal_of e))
   refused_part r e standing tree old same is tests current none there refused =
-      if_err_of_exit r e (λ e. (refusal_of e ≡ Memory)
-      ⊎ (replace_refusal room history token path since new ≡ Some (refusal_of e))) same
-      (inr (refused_place (ap (λ s. is_old s.session s.token token) (sym is)
+      if_err_of_exit r e
+      (λ e. replace_refusal room history token path since new ≡ Some (refusal_of e)) same
+      (refused_place (ap (λ s. is_old s.session s.token token) (sym is)
       ∙ (sym tests ∙ current)) (sym none) (refusal_of e)
-      (ap (λ t. tree_refusal t path new) (ap (λ s. s.tree) (sym is) ∙ sym there) ∙ refused)))
+      (ap (λ t. tree_refusal t path new) (ap (λ s. s.tree) (sym is) ∙ sym there) ∙ refused))
 
 -- ---- the causes at a begin
 

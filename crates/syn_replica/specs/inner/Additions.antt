@@ -35,4 +35,4 @@ pub record MayReplace (standing : Standing) (token : Token) (new : Tree) : Type 
 -- and why it is refused there
 abbrev pub checking_refusals : List Refusal
 checking_refusals = why.Halted ∷ why.OldSession ∷ why.BelowFloor ∷ why.Touched ∷ why.Root
-    ∷ why.NoParent ∷ why.Full ∷ why.Memory ∷ []
+    ∷ why.NoParent ∷ why.Full ∷ []

@@ -253,9 +253,10 @@ impl<D: Disk> Replica<D> {
             (Replaced (token_of token) path.now since (part_of new))) (ended refusal_of result) }
     {
         opening_laws();
-        let Some(path) = self.path_to_replace(alloc, &token, path, since, new.as_ref())? else {
+        if !self.may_replace(&token, path, since, new.as_ref())? {
             return Ok(self.position());
-        };
+        }
+        let path = path.copy(alloc)?;
         let event = Event::Replaced {
             token,
             path,
@@ -267,50 +268,45 @@ impl<D: Disk> Replica<D> {
         self.commit(alloc, payload, update)
     }
 
-    /// The path, copied for the event of a replacement that may be made; none where its token is
-    /// done. It is refused as the replacement is, but for what is found only as the event is added.
-    fn path_to_replace(
+    /// Whether the replacement is still to be made: not where its token is done. It is refused as
+    /// the replacement is, but for what is found only as the event is added, and takes no memory.
+    fn may_replace(
         &self,
-        alloc: Global,
         token: &Token,
         path: &Path,
         since: u64,
         new: Option<&Node>,
-    ) -> Result<Option<Path>, ReplicaError>
-        ensures done { IfOk result (λ found. found ≡ None
+    ) -> Result<bool, ReplicaError>
+        ensures done { IfOk result (λ may. may ≡ false
             → is_done_at (standing_shown self.now) (token_of token.now) ≡ true) }
         ensures again { is_done_at (standing_shown self.now) (token_of token.now) ≡ true
-            → ¬ IsHalted self.now → result ≡ Ok None }
-        ensures found { IfOk result (λ found. IfSome found (λ copy. (copy ≡ path.now)
-            × MayReplace (standing_shown self.now) (token_of token.now)
-            (part_of (option_map (λ there. there.now) new.entry)))) }
+            → ¬ IsHalted self.now → result ≡ Ok false }
+        ensures allowed { IfOk result (λ may. may ≡ true
+            → MayReplace (standing_shown self.now) (token_of token.now)
+            (part_of (option_map (λ there. there.now) new.entry))) }
         ensures untouched { (history : History) → standing_shown self.now ≡ standing_of history
-            → IfOk result (λ found. IfSome found
-            (λ _. first_cause (since_causes history path.now since) ≡ None)) }
+            → IfOk result (λ may. may ≡ true
+            → first_cause (since_causes history path.now since) ≡ None) }
         ensures early { (history : History) → standing_shown self.now ≡ standing_of history
-            → IfOk result (λ found. IfSome found
-            (λ _. early_refusal history (token_of token.now) path.now since ≡ None)) }
-        ensures memory { (history : History) → standing_shown self.now ≡ standing_of history
-            → IfErr result (λ e. refusal_of e ≡ Memory
+            → IfOk result (λ may. may ≡ true
             → early_refusal history (token_of token.now) path.now since ≡ None) }
         ensures cause { (room : ℕ) (history : History)
             → standing_shown self.now ≡ standing_of history → ¬ IsHalted self.now
-            → IfErr result (λ e. (refusal_of e ≡ Memory) ⊎ (replace_refusal room history
-            (token_of token.now) path.now since
-            (part_of (option_map (λ there. there.now) new.entry)) ≡ Some (refusal_of e))) }
+            → IfErr result (λ e. replace_refusal room history (token_of token.now) path.now since
+            (part_of (option_map (λ there. there.now) new.entry)) ≡ Some (refusal_of e)) }
         ensures refusals { IfErr result (IsOneOf checking_refusals) }
         ensures halted { (result ≡ Err (ReplicaError.Journal JournalError.Halted))
             ↔ IsHalted self.now }
     {
         self.check_running()?;
         if self.is_done(token) {
-            return Ok(None);
+            return Ok(false);
         }
         if self.is_old(token) {
             return Err(ReplicaError::OldSession);
         }
         self.check_untouched(path, since)?;
         self.tree().check_part(path, new)?;
-        Ok(Some(path.copy(alloc)?))
+        Ok(true)
     }
 }

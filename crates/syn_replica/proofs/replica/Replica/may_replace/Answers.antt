@@ -3,7 +3,7 @@ use Rattle.syn_tree.specs.Nodes.{part_of}
 use Rattle.std.specs.Prelude.{option_map}
 use Rattle.syn_replica.specs.Replica.{standing_shown}
 use Rattle.syn_replica.proofs.SessionLemmas.{refused_part}
-use Rattle.syn_replica.proofs.replica.Replica.path_to_replace.Goals as goal
+use Rattle.syn_replica.proofs.replica.Replica.may_replace.Goals as goal
 
 pub returns-in_err-check_part-clause-cause : goal.returns-in_err-check_part-clause-cause
 returns-in_err-check_part-clause-cause g c room history same running =
