@@ -1,9 +1,9 @@
 -- What a session that scans comes to with an answer.
 use Rattle.std.proofs.Common.{◌≡◌, ◌≤◌, ◌<◌, ◌^◌, ◌⊎◌, ◌+◌, ◌&&◌, ℕ, Bool, true, false, not, List}
-use Rattle.std.proofs.Common.{if◌then◌else◌, [], ◌∷◌, ◌++◌, map, Option, Some, None, refl, sym, ap}
+use Rattle.std.proofs.Common.{if◌then◌else◌, [], ◌∷◌, ◌++◌, map, Option, refl, sym, ap}
 use Rattle.std.proofs.Common.{◌∙◌, subst, inl, inr, arith, append-nil, length, nat_eq, nat_lt, suc}
 use Rattle.std.proofs.Common.{zero, Vec, Global, option_map}
-use Rattle.std.specs.Prelude.{All, AllPairs, Contains, IfNone, IfSome}
+use Rattle.std.specs.Prelude.{All, AllPairs, Contains}
 use Rattle.std.specs.List.{sum_by}
 use Rattle.std.proofs.lemmas.Bool.{and_parts, false≢true}
 use Rattle.std.proofs.lemmas.Bool.Decides.{nat_tests}
@@ -22,12 +22,14 @@ use Rattle.syn_scan.specs.Asked.{AreAllOut, is_out}
 use Rattle.syn_scan.specs.Found.{Found, IsWhole, is_open}
 use Rattle.syn_session.specs.Scanning.{IsFoundIn, WaitsFor, WasAnswered, asked_of, found_of, out_of}
 use Rattle.syn_session.specs.declared.peer.PeerState.{PeerState}
+use Rattle.syn_session.specs.declared.hearing.Heard.{Heard}
+use Rattle.syn_session.specs.declared.hearing.Heard.TheVariants.{Ask, Scanned}
 use Rattle.syn_session.specs.declared.session.Asks.{Asks}
 use Rattle.syn_session.specs.declared.session.Asks.TheVariants.{Listings}
 use Rattle.syn_session.specs.declared.session.Session.{Session}
 use Rattle.syn_session.specs.Answering.{asks_of}
 use Rattle.syn_session.specs.inner.Listing.{IsListed, IsNextListing, KeepsFound, ListsNext, ListsOn}
-use Rattle.syn_session.specs.inner.Listing.{is_silent}
+use Rattle.syn_session.specs.inner.Listing.{ScansNext, is_silent}
 use Rattle.syn_session.specs.Hearing.{HasHeard, IsAsking, IsFresh, IsScanned, ScansOn}
 use Rattle.syn_session.specs.Sessions.{IsPeer, IsStage}
 use Rattle.syn_session.specs.Stages.{IsToList, lists, found_on, peer_of, reached_by, requests_on}
@@ -141,7 +143,7 @@ module _ (session new : Session) (heard : Running) (h : HasHeard session heard)
       contains_none (ListAt path) (subst (λ w. Contains (map (λ (one : Outstanding). one.request) w)
       (ListAt path)) (sym (waiting_new side) ∙ none) (out side path is))
 
-  pub scanned_new : IsListed session new → IsScanned new heard
+  scanned_new : IsListed session new → IsScanned new heard
   scanned_new is =
       record { begun = begun; found = found_new; whole = whole; silent = is.silent }
     where
@@ -247,7 +249,7 @@ module _ (session new : Session) (heard : Running) (h : HasHeard session heard)
                 (in_map ListAt (on.paths side) path now)
           ])
 
-    pub scans_new : ScansOn new heard (Some asks)
+    scans_new : ScansOn new heard (Ask asks)
     scans_new archive = record {
       may_wait = may_wait_on;
       fresh =
@@ -277,10 +279,9 @@ module _ (session new : Session) (heard : Running) (h : HasHeard session heard)
           });
     }
 
-  pub scans_either : (next : Option Asks) → IfSome next (ListsOn session new) →
-      IfNone next (IsListed session new) → ScansOn new heard next
-  scans_either None some none = scanned_new none
-  scans_either (Some asks) some none = scans_new asks some
+  pub scans_next : (next : Heard) → ScansNext session new next → ScansOn new heard next
+  scans_next (Ask asks) on = scans_new asks on
+  scans_next Scanned is = scanned_new is
 
 -- ---- whether anything is listed next
 

@@ -1,7 +1,6 @@
 -- What is heard where an answer is refused, where a listing goes on, and of which request it is.
-use Rattle.std.proofs.Common.{◌≡◌, ◌⊎◌, ℕ, Option, None, refl, sym, subst, inl, inr}
-use Rattle.std.specs.Prelude.{Contains, IfNone, IfOk, IfSome, IsErrAnd, MatchResult}
-use Rattle.std.specs.Prelude.{Result, Ok, Err}
+use Rattle.std.proofs.Common.{◌≡◌, ◌⊎◌, ℕ, None, refl, sym, subst, inl, inr}
+use Rattle.std.specs.Prelude.{Contains, IfOk, IsErrAnd, MatchResult, Result, Ok, Err}
 use Rattle.syn_headline.specs.Coordinator.{Running, hearing}
 use Rattle.syn_headline.specs.Network.{Which}
 use Rattle.syn_headline.specs.Session.{BothBegun, fault_of}
@@ -12,20 +11,20 @@ use Rattle.syn_message.specs.declared.request.Request.{Request as Asked}
 use Rattle.syn_message.specs.declared.request.Request.TheVariants as has
 use Rattle.syn_model.specs.Path.{Path}
 use Rattle.syn_session.specs.Scanning.{IsFoundIn, WaitsFor}
-use Rattle.syn_session.specs.declared.session.Asks.{Asks}
+use Rattle.syn_session.specs.declared.hearing.Heard.{Heard}
 use Rattle.syn_session.specs.declared.session.Session.{Session}
 use Rattle.syn_session.specs.Answering.{exchange_of}
-use Rattle.syn_session.specs.inner.Listing.{IsListed, KeepsFound, ListsOn}
+use Rattle.syn_session.specs.inner.Listing.{KeepsFound, ScansNext}
 use Rattle.syn_session.specs.Hearing.{EndsHearing, HasHeard, Hears, afterwards}
 use Rattle.syn_refusal.specs.declared.refusal.Refusal.{Refusal as Why}
 use Rattle.syn_refusal.specs.declared.refusal.Refusal.TheVariants.{Memory}
 use Rattle.syn_session.specs.Stages.{IsToList, found_on, peer_of, requests_on}
-use Rattle.syn_session.proofs.HearLemmas.{heard_new, scans_either}
+use Rattle.syn_session.proofs.HearLemmas.{heard_new, scans_next}
 use Rattle.syn_session.proofs.TellingLemmas.{tells_heard}
 
 -- where it is refused
 pub hears_refused : (session : Session) (running : Running) (side : Which) (number : ℕ)
-    (request : Request) (reply : model.Reply) (result : Result (Option Asks) Why) (why : Why) →
+    (request : Request) (reply : model.Reply) (result : Result Heard Why) (why : Why) →
     IsErrAnd result (λ e. e ≡ why) →
     EndsHearing session running (exchange_of side number request reply) why →
     Hears session running side number request reply result
@@ -43,20 +42,19 @@ pub hears_next : {E : Type 0} (old new : Session) (running : Running) (side : Wh
     ((on : Which) → IsToList old on) →
     ((on : Which) (path : Path) → WaitsFor (peer_of old on).scan path →
     Contains (requests_on (peer_of old on)) (ListAt path)) → KeepsFound old new →
-    (went : Result (Option Asks) E) → IfOk went (λ next. IfSome next (ListsOn old new)) →
-    IfOk went (λ next. IfNone next (IsListed old new)) → (result : Result (Option Asks) Why) →
+    (went : Result Heard E) → IfOk went (ScansNext old new) → (result : Result Heard Why) →
     MatchResult went (λ next. result ≡ Ok next) (λ _. IsErrAnd result (λ why. why ≡ Memory)) →
     Hears new running side number request reply result
 hears_next old new running side number request reply fine has both found lines out keeps (Ok next)
-    some none result is =
+    is_next result is =
     let heard = hearing running (exchange_of side number request reply) in
     subst (Hears new running side number request reply) (sym is) (
       fine,
       heard_new old new heard has both found lines out keeps,
-      scans_either old new heard has both found lines out keeps next some none,
+      scans_next old new heard has both found lines out keeps next is_next,
     )
 hears_next old new running side number request reply fine has both found lines out keeps (Err e)
-    some none result is =
+    is_next result is =
     let heard = hearing running (exchange_of side number request reply) in
     hears_refused new running side number request reply result Memory is
     (afterwards fine refl (tells_heard new heard

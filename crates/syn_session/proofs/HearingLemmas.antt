@@ -24,6 +24,7 @@ use Rattle.syn_model.specs.Path.{Path}
 use Rattle.syn_scan.specs.Asked.{is_out, without as without_path}
 use Rattle.syn_session.specs.Scanning.{IsFoundIn, WaitsFor, found_of, out_of}
 use Rattle.syn_session.specs.declared.peer.PeerState.{PeerState}
+use Rattle.syn_session.specs.declared.hearing.Heard.TheVariants.{Ask}
 use Rattle.syn_session.specs.declared.session.Asks.{Asks}
 use Rattle.syn_session.specs.declared.session.Session.{Session}
 use Rattle.syn_session.specs.Answering.{IsAnswering, asks_of, exchange_of}
@@ -277,7 +278,7 @@ module _ (kept : archive.Archive) (before now : Session) (running : Running) (si
           ∙ append-nil (waiting_of (peer_of now on))))
           ((heard_so kept before now running number request reply is side answers).peer on).may
 
-      pub waits_on : ScansOn now heard (Some asks)
+      pub waits_on : ScansOn now heard (Ask asks)
       waits_on archive = record {
         may_wait = may_wait_on;
         fresh = λ on r has. absurd (nothing_on on r has);

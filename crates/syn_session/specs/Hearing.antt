@@ -1,5 +1,5 @@
 -- What a session that scans comes to with an answer.
-use Rattle.std.specs.Prelude.{◌≡◌, ◌⊎◌, ◌≤◌, ◌+◌, ◌++◌, ℕ, length, [], Option, Some, None, Contains}
+use Rattle.std.specs.Prelude.{◌≡◌, ◌⊎◌, ◌≤◌, ◌+◌, ◌++◌, ℕ, length, [], Some, None, Contains}
 use Rattle.std.specs.Prelude.{AllPairs, Result, Ok, Err}
 use Rattle.syn_headline.specs.Coordinator.{Exchange, MayWait, Running, hearing, took_not_dir}
 use Rattle.syn_headline.specs.Coordinator.{numbered}
@@ -16,6 +16,8 @@ use Rattle.syn_session.specs.Scanning.{IsFoundIn}
 use Rattle.syn_session.specs.Sessions.{IsStage, Tells}
 use Rattle.syn_session.specs.Stages.{AreOfScan, found_on, peer_of, nothing_reached, reached_by}
 use Rattle.syn_session.specs.Stages.{waiting_of}
+use Rattle.syn_session.specs.declared.hearing.Heard.{Heard}
+use Rattle.syn_session.specs.declared.hearing.Heard.TheVariants.{Ask, Scanned}
 use Rattle.syn_session.specs.declared.session.Asks.{Asks}
 use Rattle.syn_session.specs.declared.session.Session.{Session}
 
@@ -52,10 +54,10 @@ pub record IsScanned (session : Session) (heard : Running) : Type 0 where
   pub whole : (side : Which) → IsWhole (found_on session side)
   pub silent : (side : Which) → waiting_of (peer_of session side) ≡ []
 
-abbrev pub ScansOn : Session → Running → Option Asks → Type 0
-ScansOn session heard None = IsScanned session heard
-ScansOn session heard (Some asks) = (archive : model.Archive)
+abbrev pub ScansOn : Session → Running → Heard → Type 0
+ScansOn session heard (Ask asks) = (archive : model.Archive)
     → MayGoOn archive session heard asks
+ScansOn session heard Scanned = IsScanned session heard
 
 pub record HasHeard (session : Session) (heard : Running) : Type 0 where
   pub heard_is : IsHeard session heard
@@ -75,7 +77,7 @@ pub data EndsHearing (session : Session) (running : Running) (taken : Exchange) 
 
 -- what comes of it
 abbrev pub Hears : Session → Running → Which → ℕ → Request → Reply →
-    Result (Option Asks) Refusal → Type 0
+    Result Heard Refusal → Type 0
 Hears session running side number request reply (Ok next) =
     let heard = hearing running (exchange_of side number request reply) in
     (fault_of running.taken side request reply ≡ None) × HasHeard session heard

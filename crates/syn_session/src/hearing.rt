@@ -1,5 +1,5 @@
 //! What a session that scans comes to with an answer.
-ghost use Rattle.std.specs.Prelude.{◌≡◌, ℕ, None, Some, IfNone, IfOk, IfSome, MatchResult};
+ghost use Rattle.std.specs.Prelude.{◌≡◌, ℕ, None, Some, IfOk, MatchResult};
 ghost use Rattle.std.specs.Prelude.{◌&&◌, length, nat_lt};
 ghost use Rattle.syn_headline.specs.Coordinator.{Running};
 ghost use Rattle.syn_headline.specs.Network.{Which, other};
@@ -20,27 +20,34 @@ use syn_message::{Reply, Request};
 use syn_path::{Path, Side};
 use syn_refusal::Refusal;
 
+/// What an answer comes to that a session takes before it has its plan.
+#[derive(Debug, Drop)]
+pub enum Heard {
+    /// This is to be asked next.
+    Ask(Asks),
+    /// Both sides are scanned: nothing waits, and each directory was answered.
+    Scanned,
+}
+
 impl Session {
     ghost use Rattle.syn_session.specs.Answering.{IsAnswering};
     ghost use Rattle.syn_session.specs.Hearing.{Hears};
     ghost use Rattle.syn_session.specs.Sessions.{IsSession};
     ghost use Rattle.syn_session.specs.Stages.{peer_of, waiting_of};
     ghost use Rattle.syn_session.specs.declared.session.Session.{Session as Ran};
-    ghost use Rattle.syn_session.specs.inner.Listing.{IsListed, KeepsFound, ListsOn};
+    ghost use Rattle.syn_session.specs.inner.Listing.{KeepsFound, ScansNext};
 
-    /// What is listed next; none where nothing waits and each directory was answered. Refused 11
-    /// where memory is refused.
-    fn scan_on(&mut self, alloc: Global) -> Result<Option<Asks>, AllocError>
-        ensures some { IfOk result (λ next. IfSome next (ListsOn self.old self.new)) }
-        ensures none { IfOk result (λ next. IfNone next (IsListed self.old self.new)) }
+    /// What is listed next, or that both sides are scanned. Refused 11 where memory is refused.
+    fn scan_on(&mut self, alloc: Global) -> Result<Heard, AllocError>
+        ensures next { IfOk result (ScansNext self.old self.new) }
         ensures same { KeepsFound self.old self.new }
     {
         let left = self.left.next_listings(alloc)?;
         let right = self.right.next_listings(alloc)?;
         if self.are_silent(&left, &right) {
-            return Ok(None);
+            return Ok(Heard::Scanned);
         }
-        Ok(Some(Asks::Listings { left, right }))
+        Ok(Heard::Ask(Asks::Listings { left, right }))
     }
 
     /// Nothing waits, and nothing more is to be listed.
@@ -52,12 +59,7 @@ impl Session {
     }
 
     /// Takes the answer of a side to the begin.
-    fn hear_begun(
-        &mut self,
-        alloc: Global,
-        from: Side,
-        reply: Reply,
-    ) -> Result<Option<Asks>, Refusal>
+    fn hear_begun(&mut self, alloc: Global, from: Side, reply: Reply) -> Result<Heard, Refusal>
         ensures step { (archive : Keeping) (before : Ran) (running : Running) (number pair : ℕ)
             → IsSession archive before running
             → IsAnswering before self.old (which_of from) number (Begin pair)
@@ -66,7 +68,7 @@ impl Session {
     {
         check_begun(reply)?;
         if self.waits_across(from) {
-            return Ok(Some(Asks::Listings {
+            return Ok(Heard::Ask(Asks::Listings {
                 left: Vec::new(alloc),
                 right: Vec::new(alloc),
             }));
@@ -81,7 +83,7 @@ impl Session {
         from: Side,
         path: &Path,
         reply: Reply,
-    ) -> Result<Option<Asks>, Refusal>
+    ) -> Result<Heard, Refusal>
         requires lawful { IsLawfulReply (reply_of reply) }
         ensures step { (archive : Keeping) (before : Ran) (running : Running) (number : ℕ)
             → IsSession archive before running
@@ -108,7 +110,7 @@ impl Session {
     }
 
     /// Takes the answer of a side to what a session asks before it has its plan. It gives what is
-    /// asked next; none where each directory of both sides was answered.
+    /// asked next, or that both sides are scanned.
     ///
     /// Refused where the answer ends the session, and 11 where memory is refused.
     pub fn hear(
@@ -117,7 +119,7 @@ impl Session {
         from: Side,
         request: &Request,
         reply: Reply,
-    ) -> Result<Option<Asks>, Refusal>
+    ) -> Result<Heard, Refusal>
         requires lawful { IsLawfulReply (reply_of reply) }
         ensures step { (archive : Keeping) (before : Ran) (running : Running) (number : ℕ)
             → IsSession archive before running

@@ -18,7 +18,7 @@
 //! - `take_waiting` gives the message whose answer has that number, which waits no more (`some`:
 //!   `IsAnswering`). Where none does, nothing changes (`none`).
 //! - `hear` takes the answer to a begin or to a listing (`step`: `Hears`). It gives the listings
-//!   that are next, or nothing where each directory of both sides was answered. Or the session
+//!   that are next, or that each directory of both sides was answered (`Heard`). Or the session
 //!   ends, for what the answer is or 11.
 //! - What is asked next is `Asks`: listings of both sides, or one request for the item that is
 //!   carried. Each may be asked, for the first time, and may wait beside what waits (`MayGoOn`).
@@ -57,6 +57,7 @@ mod side_scan;
 
 pub use answering::ItemProgress;
 pub use doing::Doing;
+pub use hearing::Heard;
 pub use peer::PeerState;
 pub use plan_progress::{Carried, PlanProgress};
 pub use report::{End, Report};

@@ -19,7 +19,7 @@ use syn_disk::Disk;
 use syn_message::{Reply, Request};
 use syn_path::Side;
 use syn_propagate::transfer_laws;
-use syn_session::{Asks, PlanProgress, Session};
+use syn_session::{Asks, Heard, PlanProgress, Session};
 
 impl<D: Disk> Recorder<D> {
     ghost use Rattle.syn_coordinator.specs.Recorders.{written};
@@ -48,8 +48,8 @@ impl<D: Disk> Recorder<D> {
     {
         let Some(progress) = &mut session.progress else {
             return match session.hear(alloc, from, request, reply)? {
-                Some(asks) => Ok(asks),
-                None => self.begin_plan(alloc, session),
+                Heard::Ask(asks) => Ok(asks),
+                Heard::Scanned => self.begin_plan(alloc, session),
             };
         };
         transfer_laws();

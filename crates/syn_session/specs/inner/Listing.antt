@@ -10,6 +10,8 @@ use Rattle.syn_scan.specs.Asked.{AreAllOut}
 use Rattle.syn_session.specs.Answering.{asks_of}
 use Rattle.syn_session.specs.Scanning.{IsFoundIn, WaitsFor, WasAnswered, asked_of, found_of, out_of}
 use Rattle.syn_session.specs.Stages.{found_on, peer_of, waiting_of}
+use Rattle.syn_session.specs.declared.hearing.Heard.{Heard}
+use Rattle.syn_session.specs.declared.hearing.Heard.TheVariants.{Ask, Scanned}
 use Rattle.syn_session.specs.declared.peer.PeerState.{PeerState}
 use Rattle.syn_session.specs.declared.session.Asks.{Asks}
 use Rattle.syn_session.specs.declared.session.Session.{Session}
@@ -49,6 +51,11 @@ pub record IsListed (old new : Session) : Type 0 where
   pub silent : (side : Which) → waiting_of (peer_of new side) ≡ []
   pub out : (side : Which) → out_of (peer_of new side).scan ≡ out_of (peer_of old side).scan
   pub all : (side : Which) → AreAllOut (asked_of (peer_of new side).scan)
+
+-- what is listed next, or that nothing more is
+abbrev pub ScansNext : Session → Session → Heard → Type 0
+ScansNext old new (Ask asks) = ListsOn old new asks
+ScansNext old new Scanned = IsListed old new
 
 -- What stays of a session
 

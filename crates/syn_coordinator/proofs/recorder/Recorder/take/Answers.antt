@@ -34,24 +34,24 @@ returns-clause-step g c =
     is quiet (carries_now pair journal before c.args.session.now running side number request reply
     session answers c.in-Some.progress was left right same_left same_right))
 
-pub returns-in-Some-2-clause-step : goal.returns-in-Some-2-clause-step
-returns-in-Some-2-clause-step g c =
+pub returns-in-Ask-clause-step : goal.returns-in-Ask-clause-step
+returns-in-Ask-clause-step g c =
     λ pair number journal before running is quiet session answers nothing.
     let scans = sym answers.progress ∙ c.in_default.is in
     let heard =
     c.in_ok-asks.ensures.step journal.value before running number session answers scans in (
       hears_on _ pair journal running (exchange_of (which_of c.args.from) number
           (request_of c.args.request.now) (reply_of c.args.reply)) c.hear.new.self is _ nothing
-          c.in-Some-2.asks heard.0 heard.1 (subst
+          c.in-Ask.asks heard.0 heard.1 (subst
           (ScansOn c.hear.new.self (hearing running (exchange_of (which_of c.args.from) number
-          (request_of c.args.request.now) (reply_of c.args.reply)))) c.in-Some-2.is heard.2)
+          (request_of c.args.request.now) (reply_of c.args.reply)))) c.in-Ask.is heard.2)
           (not_last journal.value before c.args.session.now running (which_of c.args.from) number
           (request_of c.args.request.now) (reply_of c.args.reply) session answers scans heard.0),
       quiet.0,
     )
 
-pub returns-in-None-clause-step : goal.returns-in-None-clause-step
-returns-in-None-clause-step g c =
+pub returns-in-Scanned-clause-step : goal.returns-in-Scanned-clause-step
+returns-in-Scanned-clause-step g c =
     λ pair number journal before running is quiet session answers nothing.
     let scans = sym answers.progress ∙ c.in_default.is in
     let heard =
@@ -59,7 +59,7 @@ returns-in-None-clause-step g c =
     c.begin_plan.ensures.step pair journal running (exchange_of (which_of c.args.from) number
     (request_of c.args.request.now) (reply_of c.args.reply)) is quiet heard.0 heard.1
     (subst (ScansOn c.hear.new.self (hearing running (exchange_of (which_of c.args.from) number
-    (request_of c.args.request.now) (reply_of c.args.reply)))) c.in-None.is heard.2)
+    (request_of c.args.request.now) (reply_of c.args.reply)))) c.in-Scanned.is heard.2)
     nothing
 
 pub returns-in_err-asks-clause-step : goal.returns-in_err-asks-clause-step
@@ -75,8 +75,8 @@ returns-in_err-asks-clause-step g c =
     (tries_none c.args.self.now.tried journal quiet.0 quiet.1) _ nothing _
     (c.in_err-asks.ensures.step journal.value before running number session answers scans))
 
-pub returns-in-Some-2-clause-breaks : goal.returns-in-Some-2-clause-breaks
-returns-in-Some-2-clause-breaks g c = none_breaks c.args.self.now
+pub returns-in-Ask-clause-breaks : goal.returns-in-Ask-clause-breaks
+returns-in-Ask-clause-breaks g c = none_breaks c.args.self.now
 
 pub returns-in_err-asks-clause-breaks : goal.returns-in_err-asks-clause-breaks
 returns-in_err-asks-clause-breaks g c =

@@ -63,6 +63,6 @@ returns c = record {
       let out = begun_out archive before c.args.self.now running side number
       (Begin pair) reply is answers scans pair said.1 refl said.2 silent in
       hears_next c.args.self.now c.scan_on.new.self running side number (Begin pair) reply said.0
-      has both found lines out c.scan_on.ensures.same c.scan_on.result c.scan_on.ensures.some
-      c.scan_on.ensures.none c.map_err.result (search rules);
+      has both found lines out c.scan_on.ensures.same c.scan_on.result c.scan_on.ensures.next
+      c.map_err.result (search rules);
 }

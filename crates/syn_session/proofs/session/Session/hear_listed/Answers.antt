@@ -74,6 +74,6 @@ returns c = record {
       c.note_unstable.ensures.number c.note_unstable.ensures.preference
       c.note_unstable.ensures.progress step.1 taken_out in
       hears_next after c.scan_on.new.self running side number (ListAt path) reply step.0 has both
-      found lines out c.scan_on.ensures.same c.scan_on.result c.scan_on.ensures.some
-      c.scan_on.ensures.none c.map_err.result (search rules);
+      found lines out c.scan_on.ensures.same c.scan_on.result c.scan_on.ensures.next
+      c.map_err.result (search rules);
 }

@@ -23,16 +23,16 @@ same c =
     ∙ ap₂ (λ l r. is_silent (then_ c).left l && is_silent (then_ c).right r)
     c.deref.ensures.value c.deref-2.ensures.value
 
-pub returns-then-are_silent-clause-none : goal.returns-then-are_silent-clause-none
-returns-then-are_silent-clause-none c =
-    let k = (goal.at.returns-then-are_silent-clause-none c).After-are_silent in
+pub returns-then-are_silent-clause-next : goal.returns-then-are_silent-clause-next
+returns-then-are_silent-clause-next c =
+    let k = (goal.at.returns-then-are_silent-clause-next c).After-are_silent in
     listed_so c.args.self.now (then_ k) c.in_ok-left.left c.in_ok-right.right
     c.in_ok-left.ensures.waits c.in_ok-right.ensures.waits c.in_ok-left.ensures.next
     c.in_ok-right.ensures.next (sym (same k) ∙ c.if-are_silent.true)
 
-pub returns-clause-some : goal.returns-clause-some
-returns-clause-some c =
-    let k = (goal.at.returns-clause-some c).After-are_silent in
+pub returns-clause-next : goal.returns-clause-next
+returns-clause-next c =
+    let k = (goal.at.returns-clause-next c).After-are_silent in
     lists_so c.args.self.now (then_ k) c.in_ok-left.left c.in_ok-right.right
     c.in_ok-left.ensures.waits c.in_ok-right.ensures.waits c.in_ok-left.ensures.next
     c.in_ok-right.ensures.next (sym (same k) ∙ c.if-are_silent.false)
