@@ -1,5 +1,6 @@
 -- A session that has made its plan, or goes on in it, after an answer.
-use Rattle.std.proofs.Common.{◌≡◌, ℕ, false, ◌||◌, List, [], ◌∷◌, ◌++◌, Option, Some, None, refl}
+use Rattle.std.proofs.Common.{◌≡◌, ℕ, false, ◌&&◌, if◌then◌else◌, List, [], ◌∷◌, ◌++◌, Option, Some}
+use Rattle.std.proofs.Common.{None, refl}
 use Rattle.std.proofs.Common.{sym, ap, ◌∙◌, subst, ◌≤◌, arith, length, map}
 use Rattle.std.specs.Prelude.{Contains, MatchResult, Result, Ok, Err}
 use Rattle.std.proofs.lemmas.List.{length-map}
@@ -7,8 +8,8 @@ use Rattle.std.proofs.lemmas.List.Elements.{Contains-push}
 use Rattle.std.proofs.lemmas.Option.{none-some}
 use Rattle.syn_disk.specs.declared.disk.Disk.{Ghosts}
 use Rattle.syn_headline.specs.Coordinator.{Exchange, HasPlan, Running, fault_of, hearing}
-use Rattle.syn_headline.specs.Coordinator.{Outstanding, is_not_dir, took_not_dir, makes, stays}
-use Rattle.syn_headline.specs.Network.{Left, Right, Which, other}
+use Rattle.syn_headline.specs.Coordinator.{Outstanding, entries_in, is_not_dir, makes, stays}
+use Rattle.syn_headline.specs.Network.{Left, Right, Which, is_side, other}
 use Rattle.syn_headline.specs.Side.{Begin, Fetch, Listed, ListAt, NotDir, Replace, Request, Stage}
 use Rattle.syn_headline.specs.Side as said
 use Rattle.syn_model.specs.Plan as planning
@@ -20,7 +21,8 @@ use Rattle.syn_model.specs.Dirty.{IsScanBy}
 use Rattle.syn_scan.specs.Found.{Found, position_of, scan_of}
 use Rattle.syn_coordinator.specs.Recorders.{written}
 use Rattle.syn_coordinator.specs.Machines.{IsMachine, Journal}
-use Rattle.syn_session.specs.Scanning.{WasListedAt, WasNoDirectoryAt, found_of}
+use Rattle.syn_model.specs.Path.{Path}
+use Rattle.syn_session.specs.Scanning.{IsFoundIn, WasListedAt, WasNoDirectoryAt, found_of}
 use Rattle.syn_coordinator.specs.declared.recorder.Recorder.{Recorder}
 use Rattle.syn_session.specs.declared.plan_progress.PlanProgress.{PlanProgress}
 use Rattle.syn_session.specs.declared.peer.PeerState.{PeerState}
@@ -36,20 +38,22 @@ use Rattle.syn_session.specs.Hearing.{HasHeard, IsScanned, afterwards}
 use Rattle.syn_session.specs.Plans.{Plan}
 use Rattle.syn_session.specs.Sessions.{IsPeer, IsSession, IsStage, Tells}
 use Rattle.syn_coordinator.specs.inner.Settling.{AsksSo, EndsSo, IsQuiet}
-use Rattle.syn_session.specs.Stages.{Carries, IsAskedBefore, IsCarrying, IsPlanProgress, IsOfScan}
-use Rattle.syn_session.specs.Stages.{Reached, found_on, peer_of, plan_in, reached_by, requests_on}
-use Rattle.syn_session.specs.Stages.{waiting_of}
+use Rattle.syn_session.specs.Stages.{Carries, IsAskedBefore, IsCarrying, IsFoundOnBoth, IsOfScan}
+use Rattle.syn_session.specs.Stages.{IsPlanProgress, Reached, found_on, peer_of, plan_in}
+use Rattle.syn_session.specs.Stages.{reached_by, requests_on, waiting_of}
 use Rattle.syn_coordinator.specs.inner.Taking as taking
 use Rattle.syn_coordinator.specs.inner.Walking.{ComesToAsk, Ends, IsAtItem}
 use Rattle.syn_session.specs.Passing.{first_reached}
-use Rattle.syn_session.proofs.AnswerLemmas.{heard_so, unstable_then}
+use Rattle.syn_session.proofs.AnswerLemmas.{heard_so}
+use Rattle.syn_session.proofs.HearLemmas.{found_still}
 use Rattle.syn_coordinator.proofs.CarryLemmas.{asks_course, ends_course}
-use Rattle.syn_session.proofs.TellingLemmas.{scans_further, tells_heard}
+use Rattle.syn_session.proofs.TellingLemmas.{either_false, either_nothing, scans_further}
+use Rattle.syn_session.proofs.TellingLemmas.{tells_heard}
 use Rattle.syn_coordinator.proofs.MakingLemmas.{made_of, makes_plan}
 use Rattle.syn_session.proofs.WaitingLemmas.{alone_is, asked_has}
 use Rattle.syn_coordinator.proofs.TakeLemmas.{hears_end}
 use Rattle.syn_coordinator.proofs.TriedLemmas.{tries_none}
-use Rattle.syn_model.proofs.BaseLemmas.{or_false, contains_one, contains_none}
+use Rattle.syn_model.proofs.BaseLemmas.{contains_one, contains_none}
 use Rattle.syn_headline.proofs.StagedLemmas.{on_both}
 
 -- ---- whatever its plan, a session is heard alike
@@ -69,6 +73,11 @@ heard_with session progress heard h =
         side
     peer Left = h.peer Left
     peer Right = h.peer Right
+
+found_with : (session : Session) (progress : Option PlanProgress) {taken : List Exchange} →
+    IsFoundOnBoth session taken → IsFoundOnBoth (record session { progress = progress }) taken
+found_with session progress found Left = found Left
+found_with session progress found Right = found Right
 
 silent_with : (session : Session) (progress : Option PlanProgress) →
     ((side : Which) → waiting_of (peer_of session side) ≡ []) → (side : Which) →
@@ -144,7 +153,8 @@ module _ {D : Type 0} {disk : Ghosts D} (old : Recorder D disk) (pair : ℕ) (jo
             (sym (so.1 ∙ ap (λ l. l ++ so.0) nothing))
             (asks_course new.archive pair journal running taken later progress refl
             (heard_with session (Some progress) (hearing running taken) heard.heard_is)
-            heard.unstable (silent_with session (Some progress) scanned.silent) fault first
+            (found_with session (Some progress) heard.found)
+            (silent_with session (Some progress) scanned.silent) fault first
             (sym (ap (λ (r : Reached). r.cursor) heard.reached))
             (sym (ap (λ (r : Reached). r.refused) heard.reached))
             (sym (ap (λ (r : Reached). r.kept) heard.reached)) _ made_it so.0 asks
@@ -163,7 +173,8 @@ module _ {D : Type 0} {disk : Ghosts D} (old : Recorder D disk) (pair : ℕ) (jo
             (sym (so.1 ∙ ap (λ l. l ++ so.0) nothing))
             (ends_course new.archive pair journal running taken later progress refl
             (heard_with session (Some progress) (hearing running taken) heard.heard_is)
-            heard.unstable (silent_with session (Some progress) scanned.silent) fault first
+            (found_with session (Some progress) heard.found)
+            (silent_with session (Some progress) scanned.silent) fault first
             (sym (ap (λ (r : Reached). r.cursor) heard.reached))
             (sym (ap (λ (r : Reached). r.refused) heard.reached))
             (sym (ap (λ (r : Reached). r.kept) heard.reached)) _ made_it new.tried so.0 ended
@@ -182,24 +193,34 @@ module _ {D : Type 0} {disk : Ghosts D} (old : Recorder D disk) (pair : ℕ) (jo
 
 -- ---- it goes on in its plan
 
--- an answer for an item that does not end the session tells of no directory that is none
-is_stable : (taken : List Exchange) (side : Which) (c : TransferSpec) (request : Request) →
+-- a request for an item is for no listing
+lists_none : (c : TransferSpec) (side : Which) (request : Request) → IsForItem c side request →
+    (path : Path) → request ≡ ListAt path → ⊥
+lists_none c side request it path is = subst (IsForItem c side) is it
+
+-- an answer for an item that does not end the session shows nothing of a directory
+shows_none : (taken : List Exchange) (side : Which) (c : TransferSpec) (request : Request) →
     IsForItem c side request → (reply : said.Reply) → fault_of taken side request reply ≡ None →
-    is_not_dir reply ≡ false
-is_stable taken side c request it (said.Begun position) fault = refl
-is_stable taken side c request it (said.Listed position entries) fault = refl
-is_stable taken side c (Begin pair) it (said.NotDir position) fault = absurd it
-is_stable taken side c (ListAt path) it (said.NotDir position) fault = absurd it
-is_stable taken side c (Fetch path since offset) it (said.NotDir position) fault =
+    (entries_in reply ≡ 0) × (is_not_dir reply ≡ false)
+shows_none taken side c (Begin pair) it reply fault = absurd it
+shows_none taken side c (ListAt path) it reply fault = absurd it
+shows_none taken side c request it (said.Begun position) fault = (refl, refl)
+shows_none taken side c (Fetch path since offset) it (said.Listed position entries) fault =
     absurd (none-some _ (sym fault))
-is_stable taken side c (Stage item offset bytes) it (said.NotDir position) fault =
+shows_none taken side c (Stage item offset bytes) it (said.Listed position entries) fault =
     absurd (none-some _ (sym fault))
-is_stable taken side c (Replace item path since size) it (said.NotDir position) fault =
+shows_none taken side c (Replace item path since size) it (said.Listed position entries) fault =
     absurd (none-some _ (sym fault))
-is_stable taken side c request it (said.Piece total bytes) fault = refl
-is_stable taken side c request it said.Staged fault = refl
-is_stable taken side c request it said.Done fault = refl
-is_stable taken side c request it (said.Refused why) fault = refl
+shows_none taken side c (Fetch path since offset) it (said.NotDir position) fault =
+    absurd (none-some _ (sym fault))
+shows_none taken side c (Stage item offset bytes) it (said.NotDir position) fault =
+    absurd (none-some _ (sym fault))
+shows_none taken side c (Replace item path since size) it (said.NotDir position) fault =
+    absurd (none-some _ (sym fault))
+shows_none taken side c request it (said.Piece total bytes) fault = (refl, refl)
+shows_none taken side c request it said.Staged fault = (refl, refl)
+shows_none taken side c request it said.Done fault = (refl, refl)
+shows_none taken side c request it (said.Refused why) fault = (refl, refl)
 
 -- nothing waits where nothing is asked
 none_waits : (waiting : List Outstanding) →
@@ -296,19 +317,27 @@ module _ (pair : ℕ) (journal : Journal) (before session : Session) (running : 
           heard_with session (Some later) (hearing running taken)
           (heard_so journal.value before session running number request reply is side answers)
 
-      unstable : fault_of running.taken side request reply ≡ None →
-          took_not_dir (hearing running taken) ≡ next.has_unstable_path
-      unstable fault =
+      found_before : IsFoundOnBoth session running.taken
+      found_before on =
+          subst (λ s. IsFoundIn (found_of s) on running.taken) (sym (same_scan on)) (is.found on)
+
+      -- and the answer shows nothing
+      found_next : fault_of running.taken side request reply ≡ None →
+          IsFoundOnBoth next (running.taken ++ taken ∷ [])
+      found_next fault =
+          let c = spec_of carries_now.carried.transfer in
           let it = law carries_now.carried.transfer running.taken side request carries_now.is in
-          unstable_then journal.value before session running number request reply is side
-          ∙ (ap (λ b. before.has_unstable_path || b) (is_stable running.taken side
-          (spec_of carries_now.carried.transfer) request it reply fault)
-          ∙ (or_false before.has_unstable_path ∙ sym answers.unstable))
+          let none = shows_none running.taken side c request it reply fault in
+          found_with session (Some later) (λ on. found_still (found_on session on) on running.taken
+          taken (found_before on)
+          (ap (λ n. if is_side on side then n else 0) none.0 ∙ either_nothing (is_side on side))
+          (ap (λ b. is_side on side && b) none.1 ∙ either_false (is_side on side))
+          (λ _. lists_none c side request it))
 
       tells_before : IsPlanProgress later left right (reached_by running) → Tells next running
       tells_before course_is = record {
         number = is.number ∙ sym answers.number_is;
-        unstable = is.unstable ∙ sym answers.unstable;
+        found = found_with session (Some later) found_before;
         told = (left, right, course_is);
       }
 
@@ -319,7 +348,7 @@ module _ (pair : ℕ) (journal : Journal) (before session : Session) (running : 
           subst (λ k. TakesOn new.archive pair journal running taken next k asks)
           (sym (so.asks_so.1 ∙ ap (λ l. l ++ so.asks_so.0) nothing))
           (asks_course new.archive pair journal running taken next later refl heard
-          (unstable so.fault) (silent_with session (Some later) silent_now) so.fault
+          (found_next so.fault) (silent_with session (Some later) silent_now) so.fault
           (reached_by running) refl refl refl [] stays so.asks_so.0 asks
           (subst (λ r. ComesToAsk new.archive pair taken journal (reached_by running) so.asks_so.0
           later (found_on session Left) r (running.taken ++ taken ∷ []) asks) same_right
@@ -336,8 +365,9 @@ module _ (pair : ℕ) (journal : Journal) (before session : Session) (running : 
       carries_ending ended (carrying.afterwards how fault so) =
           subst (λ k. TakesEnd new.archive new.tried pair journal running taken next k ended)
           (sym (so.1 ∙ ap (λ l. l ++ so.0) nothing))
-          (ends_course new.archive pair journal running taken next later refl heard (unstable fault)
-          (silent_with session (Some later) silent_now) fault (reached_by running) refl refl refl
+          (ends_course new.archive pair journal running taken next later refl heard
+          (found_next fault) (silent_with session (Some later) silent_now) fault (reached_by
+          running) refl refl refl
           [] stays new.tried so.0 ended
           (subst (λ r. Ends new.archive new.tried pair taken journal (reached_by running) so.0 later
           (found_on session Left) r ended) same_right

@@ -9,7 +9,7 @@ use Rattle.syn_archive.specs.declared.archive.Archive.{Archive}
 use Rattle.syn_disk.specs.declared.disk.Disk.{Ghosts}
 use Rattle.syn_headline.specs.Coordinator.{Advances, AsksOnce, Exchange, HasPlan, MayAsk}
 use Rattle.syn_headline.specs.Coordinator.{Outstanding, Running, Walk, fault_of, hearing, is_last}
-use Rattle.syn_headline.specs.Coordinator.{MayWait, took_not_dir, numbered, stands}
+use Rattle.syn_headline.specs.Coordinator.{MayWait, numbered, stands}
 use Rattle.syn_headline.specs.Network.{IsRepeat, Left, Right, Which, other}
 use Rattle.syn_headline.specs.Planning.{Log, Planned, WritesTo, seen_on}
 use Rattle.syn_headline.specs.Session.{IsStagedTo, WasTaken, first_total, is_wanted, record_for}
@@ -41,8 +41,9 @@ use Rattle.syn_session.specs.declared.session.Asks.TheVariants.{Listings, One}
 use Rattle.syn_session.specs.Hearing.{IsAsking, IsFresh}
 use Rattle.syn_session.specs.Sessions.{IsPeer, IsStage, Tells, TellsOf}
 use Rattle.syn_image.specs.Archives.{kept_for}
-use Rattle.syn_session.specs.Stages.{Carries, IsCarriageOf, IsPlanProgress, Reached, found_on}
-use Rattle.syn_session.specs.Stages.{peer_of, plan_in, reached_by, requests_on, waiting_of}
+use Rattle.syn_session.specs.Stages.{Carries, IsCarriageOf, IsFoundOnBoth, IsPlanProgress, Reached}
+use Rattle.syn_session.specs.Stages.{found_on, peer_of, plan_in, reached_by, requests_on}
+use Rattle.syn_session.specs.Stages.{waiting_of}
 use Rattle.syn_coordinator.specs.inner.Taking as taking
 use Rattle.syn_coordinator.specs.inner.Walking.{ComesToAsk, Ends, HasKept, ends, goes_down, plan_at}
 use Rattle.syn_coordinator.specs.inner.Walking.{walk_at}
@@ -178,7 +179,7 @@ module _ {D : Type 0} {disk : Ghosts D} (new : Archive D disk) (pair : ℕ) (jou
     (running : Running) (taken : Exchange) (session : Session) (progress : PlanProgress)
     (is_course : session.progress ≡ Some progress)
     (heard : IsHeard session (hearing running taken))
-    (unstable : took_not_dir (hearing running taken) ≡ session.has_unstable_path)
+    (found : IsFoundOnBoth session (running.taken ++ taken ∷ []))
     (silent : (side : Which) → waiting_of (peer_of session side) ≡ [])
     (fault : fault_of running.taken taken.side taken.request taken.reply ≡ None) (before : Reached)
     (same_cursor : before.cursor ≡ running.cursor)
@@ -190,7 +191,7 @@ module _ {D : Type 0} {disk : Ghosts D} (new : Archive D disk) (pair : ℕ) (jou
   tells_course after is =
       record {
         number = heard.number;
-        unstable = unstable;
+        found = found;
         told = subst (λ c. TellsOf c after) (sym is_course) (_, _, is);
       }
 

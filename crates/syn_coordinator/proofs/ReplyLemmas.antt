@@ -6,7 +6,7 @@ use Rattle.std.proofs.lemmas.Bool.{false≢true}
 use Rattle.syn_disk.specs.declared.disk.Disk.{Ghosts}
 use Rattle.syn_headline.specs.Coordinator.{AsksNext, CoordinatorMachine, CoordinatorTakes, EndsFor}
 use Rattle.syn_headline.specs.Coordinator.{Exchange, IsExpected, Running, asked_in}
-use Rattle.syn_headline.specs.Coordinator.{asking, after_taking, ignores, took_not_dir, report_of}
+use Rattle.syn_headline.specs.Coordinator.{asking, after_taking, ignores, report_of}
 use Rattle.syn_headline.specs.Coordinator.{sent_now, takes}
 use Rattle.syn_headline.specs.Coordinator as model
 use Rattle.syn_headline.specs.Network.{Left, Message, Right, Which}
@@ -29,7 +29,8 @@ use Rattle.syn_session.specs.Answering.{IsAnswering, IsAskedOn, asks_of, exchang
 use Rattle.syn_session.specs.Answering.{messages_asked}
 use Rattle.syn_session.specs.Hearing.{IsAsking}
 use Rattle.syn_session.specs.Sessions.{IsRunning, IsSession, Tells, TellsOf}
-use Rattle.syn_session.specs.Stages.{Reached, peer_of, reached_by, waiting_of}
+use Rattle.syn_session.specs.Scanning.{IsFoundIn, found_of}
+use Rattle.syn_session.specs.Stages.{Reached, found_on, peer_of, reached_by, waiting_of}
 use Rattle.syn_coordinator.specs.inner.Taking.{TakesEnd, TakesOn, Walks, reaching}
 use Rattle.syn_coordinator.specs.inner.Taking as taking
 use Rattle.syn_coordinator.specs.inner.Walking.{ended_by, walk_at}
@@ -38,15 +39,18 @@ use Rattle.syn_coordinator.proofs.StartLemmas.{no_session}
 use Rattle.syn_coordinator.proofs.TickLemmas.{run_alike, session_of}
 use Rattle.syn_coordinator.proofs.TriedLemmas.{tries_none}
 use Rattle.std.proofs.lemmas.Option.{none-some}
+use Rattle.syn_headline.proofs.StagedLemmas.{on_both}
 
--- what a session tells stays with its number, its plan and whether it is unstable
+-- what a session tells stays with its number, its scans and its plan
 pub tells_same : (old new : Session) (running : Running) → new.number ≡ old.number →
-    new.has_unstable_path ≡ old.has_unstable_path → new.progress ≡ old.progress →
-    Tells old running →
-    Tells new running
-tells_same old new running number unstable progress tells = record {
+    new.left.scan ≡ old.left.scan → new.right.scan ≡ old.right.scan →
+    new.progress ≡ old.progress → Tells old running → Tells new running
+tells_same old new running number left right progress tells = record {
   number = tells.number ∙ sym number;
-  unstable = tells.unstable ∙ sym unstable;
+  found =
+      on_both (λ on. IsFoundIn (found_on new on) on running.taken) Left
+      (subst (λ s. IsFoundIn (found_of s) Left running.taken) (sym left) (tells.found Left))
+      (subst (λ s. IsFoundIn (found_of s) Right running.taken) (sym right) (tells.found Right));
   told = subst (λ c. TellsOf c (reached_by running)) (sym progress) tells.told;
 }
 
@@ -70,8 +74,7 @@ module _ (pair : ℕ) (machine : CoordinatorMachine) (running : Running) (taken 
       (asked : (side : Which) →
       IsAskedOn session.number (peer_of session side) (peer_of next side) (asks_of asks side))
       (number : next.number ≡ session.number)
-      (preferred : next.preference ≡ session.preference) (unstable : next.has_unstable_path ≡
-      session.has_unstable_path)
+      (preferred : next.preference ≡ session.preference)
       (progress : next.progress ≡ session.progress) where
     abbrev heard : Running
     heard = reaching running taken on.after
@@ -96,7 +99,9 @@ module _ (pair : ℕ) (machine : CoordinatorMachine) (running : Running) (taken 
           lawful = h.lawful;
           peer = h.peer;
           once = h.once;
-          unstable = on.tells.unstable ∙ sym unstable;
+          found =
+              λ side. subst (λ s. IsFoundIn (found_of s) side heard.taken) (sym (asked side).scan)
+              (on.tells.found side);
           stage = on.may.stage next asks_it;
         }
 

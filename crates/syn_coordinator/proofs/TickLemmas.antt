@@ -37,7 +37,7 @@ worn_so archive session running is =
 pub tells_now : (archive : model.Archive) (session : Session) (running : Running) →
     IsSession archive session running → Tells session running
 tells_now archive session running is =
-    record { number = is.number; unstable = is.unstable; told = by session.progress is.stage }
+    record { number = is.number; found = is.found; told = by session.progress is.stage }
   where
     by : (progress : Option PlanProgress) →
         IsStage archive session progress running.taken (reached_by running) →

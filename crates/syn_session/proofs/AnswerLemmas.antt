@@ -1,14 +1,13 @@
 -- A session whose answer has come.
-use Rattle.std.proofs.Common.{◌≡◌, ◌≤◌, ◌<◌, ◌^◌, ◌+◌, ◌==◌, ℕ, Bool, true, false, not, ◌||◌, cond}
+use Rattle.std.proofs.Common.{◌≡◌, ◌≤◌, ◌<◌, ◌^◌, ◌+◌, ◌==◌, ℕ, not, cond}
 use Rattle.std.proofs.Common.{List, [], ◌∷◌, ◌++◌, length, Some, refl, sym, ap, ap₂, ◌∙◌, Option}
 use Rattle.std.proofs.Common.{subst, inl, inr, arith, option_map}
 use Rattle.std.specs.Prelude.{All}
 use Rattle.std.specs.List.{count_by}
 use Rattle.std.proofs.lemmas.List.Elements.{All-filter, Contains-push_cases}
-use Rattle.std.proofs.lemmas.List.Folds.{list_any-append}
 use Rattle.std.proofs.lemmas.List.Sums.{sum_by-append}
 use Rattle.syn_headline.specs.Coordinator.{AreRising, MayWait, Running, outstanding}
-use Rattle.syn_headline.specs.Coordinator.{asked_in, hearing, is_not_dir, took_not_dir, without}
+use Rattle.syn_headline.specs.Coordinator.{asked_in, hearing, without}
 use Rattle.syn_headline.specs.Network.{Which, Left, Right, other, is_side}
 use Rattle.syn_headline.specs.Session.{Exchange, WasAsked}
 use Rattle.syn_headline.specs.Side.{Request}
@@ -162,15 +161,3 @@ module _ (kept : archive.Archive) (old new : Session) (running : Running) (numbe
         λ on m n a b was_m was_n repeat. is.once on m n a b (was_asked side answers on m a was_m)
         (was_asked side answers on n b was_n) repeat;
   }
-
-  pub unstable_then : (side : Which) →
-      took_not_dir (hearing running (exchange_of side number request reply))
-      ≡ (old.has_unstable_path || is_not_dir reply)
-  unstable_then side =
-      list_any-append (λ one. is_not_dir one.reply) running.taken
-      (exchange_of side number request reply ∷ [])
-      ∙ ap₂ (λ a b. a || b) is.unstable (only (is_not_dir reply))
-    where
-      only : (b : Bool) → (b || false) ≡ b
-      only true = refl
-      only false = refl

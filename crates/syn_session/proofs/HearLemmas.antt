@@ -1,5 +1,6 @@
 -- What a session that scans comes to with an answer.
-use Rattle.std.proofs.Common.{◌≡◌, ◌≤◌, ◌<◌, ◌^◌, ◌⊎◌, ◌+◌, ◌&&◌, ℕ, Bool, true, false, not, List}
+use Rattle.std.proofs.Common.{◌≡◌, ◌≤◌, ◌<◌, ◌^◌, ◌⊎◌, ◌+◌, ◌&&◌, ◌||◌, ℕ, Bool, true, false, not}
+use Rattle.std.proofs.Common.{List}
 use Rattle.std.proofs.Common.{if◌then◌else◌, [], ◌∷◌, ◌++◌, map, Option, refl, sym, ap}
 use Rattle.std.proofs.Common.{◌∙◌, subst, inl, inr, arith, append-nil, length, nat_eq, nat_lt, suc}
 use Rattle.std.proofs.Common.{zero, Vec, Global, option_map}
@@ -11,16 +12,18 @@ use Rattle.std.proofs.lemmas.List.{length-map, map-append}
 use Rattle.std.proofs.lemmas.List.Elements.{All-contains, Contains-append_cases}
 use Rattle.std.proofs.lemmas.List.Elements.{Contains-append_left, Contains-append_right}
 use Rattle.std.proofs.lemmas.List.Elements.{Contains-push_cases}
+use Rattle.std.proofs.lemmas.List.Folds.{list_any-append}
 use Rattle.std.proofs.lemmas.List.Sums.{sum_by-append}
 use Rattle.syn_headline.specs.Coordinator.{AreRising, Exchange, MayAsk, MayWait, Outstanding}
 use Rattle.syn_headline.specs.Coordinator.{Running, numbered}
 use Rattle.syn_headline.specs.Network.{IsRepeat, Left, Right, Which, is_side}
-use Rattle.syn_headline.specs.Session.{BothBegun, entries_in}
+use Rattle.syn_headline.specs.Session.{BothBegun, entries_in, is_not_dir}
 use Rattle.syn_headline.specs.Side.{Begin, Fetch, IsLawfulBody, ListAt, Replace, Request, Stage}
 use Rattle.syn_model.specs.Path.{Path}
 use Rattle.syn_scan.specs.Asked.{AreAllOut, is_out}
 use Rattle.syn_scan.specs.Found.{Found, IsWhole, is_open}
 use Rattle.syn_session.specs.Scanning.{IsFoundIn, WaitsFor, WasAnswered, asked_of, found_of, out_of}
+use Rattle.syn_session.specs.Scanning.{told_unstable}
 use Rattle.syn_session.specs.declared.peer.PeerState.{PeerState}
 use Rattle.syn_session.specs.declared.hearing.Heard.{Heard}
 use Rattle.syn_session.specs.declared.hearing.Heard.TheVariants.{Ask, Scanned}
@@ -32,23 +35,25 @@ use Rattle.syn_session.specs.inner.Listing.{IsListed, IsNextListing, KeepsFound,
 use Rattle.syn_session.specs.inner.Listing.{ScansNext, is_silent}
 use Rattle.syn_session.specs.Hearing.{HasHeard, IsAsking, IsFresh, IsScanned, ScansOn}
 use Rattle.syn_session.specs.Sessions.{IsPeer, IsStage}
-use Rattle.syn_session.specs.Stages.{IsToList, lists, found_on, peer_of, reached_by, requests_on}
+use Rattle.syn_session.specs.Stages.{IsFoundOnBoth, IsToList, lists, found_on, peer_of, reached_by}
+use Rattle.syn_session.specs.Stages.{requests_on}
 use Rattle.syn_session.specs.Stages.{outstanding_of, waiting_of}
 use Rattle.syn_session.proofs.WaitingLemmas.{contains_out, in_map, listings_all}
 use Rattle.syn_session.proofs.WaitingLemmas.{may_listings, none_wait, numbered_requests}
 use Rattle.syn_session.proofs.WaitingLemmas.{out_contains, pairs_map, same_directory}
 use Rattle.syn_path.specs.Sides.{which_of}
 use Rattle.syn_path.specs.declared.side.Side.{Side}
-use Rattle.syn_model.proofs.BaseLemmas.{contains_none, from_map}
+use Rattle.syn_model.proofs.BaseLemmas.{contains_none, from_map, or_false}
 
 -- ---- what was found stays with an answer that shows nothing there
 
 pub found_still : (found : Found) (side : Which) (taken : List Exchange) (exchange : Exchange) →
     IsFoundIn found side taken →
     (if is_side side exchange.side then entries_in exchange.reply else 0) ≡ 0 →
+    (is_side side exchange.side && is_not_dir exchange.reply) ≡ false →
     (exchange.side ≡ side → (path : Path) → exchange.request ≡ ListAt path → ⊥) →
     IsFoundIn found side (taken ++ exchange ∷ [])
-found_still found side taken exchange f nothing never = record {
+found_still found side taken exchange f nothing stable never = record {
   listed =
       λ path position entries was. let had = f.listed path position entries was in
       (had.0, Contains-append_left taken _ _ had.1);
@@ -58,6 +63,10 @@ found_still found side taken exchange f nothing never = record {
   nodes =
       ap (λ n. 1 + n) (sum_by-append shows taken (exchange ∷ [])) ∙ (ap
       (λ n. 1 + (sum_by shows taken + (0 + n))) nothing ∙ (add (sum_by shows taken) ∙ f.nodes));
+  unstable =
+      list_any-append tells taken (exchange ∷ [])
+      ∙ (ap (λ b. told_unstable taken side || (b || false)) stable
+      ∙ (or_false (told_unstable taken side) ∙ f.unstable));
   only =
       λ one path has at asked. elim (Contains-push_cases taken exchange one has)
       as (λ _. WasAnswered found path) [
@@ -69,6 +78,9 @@ found_still found side taken exchange f nothing never = record {
   where
     shows : Exchange → ℕ
     shows one = if is_side side one.side then entries_in one.reply else 0
+
+    tells : Exchange → Bool
+    tells one = is_side side one.side && is_not_dir one.reply
 
     add : (n : ℕ) → 1 + (n + (0 + 0)) ≡ 1 + n
     add n = omega arith
@@ -89,13 +101,12 @@ shut_by true false e never = e
 
 module _ (session new : Session) (heard : Running) (h : HasHeard session heard)
     (begun : BothBegun heard.taken)
-    (found : (side : Which) → IsFoundIn (found_on session side) side heard.taken)
     (listing : (side : Which) → IsToList session side)
     (out : (side : Which) (path : Path) → WaitsFor (peer_of session side).scan path →
     Contains (requests_on (peer_of session side)) (ListAt path))
     (keeps : KeepsFound session new) where
-  found_new : (side : Which) → IsFoundIn (found_on new side) side heard.taken
-  found_new side = subst (λ f. IsFoundIn f side heard.taken) (sym (keeps.found side)) (found side)
+  found_new : IsFoundOnBoth new heard.taken
+  found_new side = subst (λ f. IsFoundIn f side heard.taken) (sym (keeps.found side)) (h.found side)
 
   waiting_new : (side : Which) → waiting_of (peer_of new side) ≡ waiting_of (peer_of session side)
   waiting_new side = ap (λ w. map outstanding_of w.items) (keeps.waits side)
@@ -130,7 +141,7 @@ module _ (session new : Session) (heard : Running) (h : HasHeard session heard)
           peer = peer_new;
           once = h.heard_is.once;
         };
-    unstable = h.unstable ∙ sym keeps.unstable;
+    found = found_new;
     scans = keeps.progress ∙ h.scans;
     reached = h.reached;
     of_scan = h.of_scan;
@@ -145,7 +156,7 @@ module _ (session new : Session) (heard : Running) (h : HasHeard session heard)
 
   scanned_new : IsListed session new → IsScanned new heard
   scanned_new is =
-      record { begun = begun; found = found_new; whole = whole; silent = is.silent }
+      record { begun = begun; whole = whole; silent = is.silent }
     where
       whole : (side : Which) → IsWhole (found_on new side)
       whole side path =
@@ -170,7 +181,7 @@ module _ (session new : Session) (heard : Running) (h : HasHeard session heard)
     fresh_listing : (side : Which) (path : Path) → IsNextListing (peer_of session side) path →
         IsFresh heard side (ListAt path)
     fresh_listing side path is n before (inl (reply, has)) repeat =
-        is.unanswered ((found side).only _ path has refl (no_repeat before path repeat))
+        is.unanswered ((h.found side).only _ path has refl (no_repeat before path repeat))
     fresh_listing side path is n before (inr (k, has)) repeat =
         let it = listing side before (in_map (λ (one : Outstanding). one.request)
         (waiting_of (peer_of session side)) (record { number = n; request = before; resent = k })
@@ -262,7 +273,7 @@ module _ (session new : Session) (heard : Running) (h : HasHeard session heard)
       may =
           λ side request has. let it = next_listing side request has in
           subst (λ r. MayAsk archive heard side r × IsLawfulBody r) (sym it.1) (
-            (ap (λ r. r.plan) h.reached, begun, it.2.shown side heard.taken (found side)),
+            (ap (λ r. r.plan) h.reached, begun, it.2.shown side heard.taken (h.found side)),
             it.2.lawful,
           );
       some = on.some;
@@ -271,9 +282,6 @@ module _ (session new : Session) (heard : Running) (h : HasHeard session heard)
           (sym (asking.progress ∙ (keeps.progress ∙ h.scans))) (record {
             nothing = h.reached;
             of_scan = h.of_scan;
-            found =
-                λ side. subst (λ s. IsFoundIn (found_of s) side heard.taken)
-                (sym (asking.peer side).scan) (found_new side);
             at = lists begun (to_list later asking);
             out = still_out later asking;
           });

@@ -10,7 +10,7 @@ use Rattle.syn_message.specs.Requests.{request_of}
 use Rattle.syn_message.specs.declared.request.Request.{Request as Asked}
 use Rattle.syn_message.specs.declared.request.Request.TheVariants as has
 use Rattle.syn_model.specs.Path.{Path}
-use Rattle.syn_session.specs.Scanning.{IsFoundIn, WaitsFor}
+use Rattle.syn_session.specs.Scanning.{WaitsFor}
 use Rattle.syn_session.specs.declared.hearing.Heard.{Heard}
 use Rattle.syn_session.specs.declared.session.Session.{Session}
 use Rattle.syn_session.specs.Answering.{exchange_of}
@@ -18,7 +18,7 @@ use Rattle.syn_session.specs.inner.Listing.{KeepsFound, ScansNext}
 use Rattle.syn_session.specs.Hearing.{EndsHearing, HasHeard, Hears, afterwards}
 use Rattle.syn_refusal.specs.declared.refusal.Refusal.{Refusal as Why}
 use Rattle.syn_refusal.specs.declared.refusal.Refusal.TheVariants.{Memory}
-use Rattle.syn_session.specs.Stages.{IsToList, found_on, peer_of, requests_on}
+use Rattle.syn_session.specs.Stages.{IsToList, peer_of, requests_on}
 use Rattle.syn_session.proofs.HearLemmas.{heard_new, scans_next}
 use Rattle.syn_session.proofs.TellingLemmas.{tells_heard}
 
@@ -38,27 +38,26 @@ pub hears_next : {E : Type 0} (old new : Session) (running : Running) (side : Wh
     let heard = hearing running (exchange_of side number request reply) in
     fault_of running.taken side request reply ≡ None → HasHeard old heard →
     BothBegun heard.taken →
-    ((on : Which) → IsFoundIn (found_on old on) on heard.taken) →
     ((on : Which) → IsToList old on) →
     ((on : Which) (path : Path) → WaitsFor (peer_of old on).scan path →
     Contains (requests_on (peer_of old on)) (ListAt path)) → KeepsFound old new →
     (went : Result Heard E) → IfOk went (ScansNext old new) → (result : Result Heard Why) →
     MatchResult went (λ next. result ≡ Ok next) (λ _. IsErrAnd result (λ why. why ≡ Memory)) →
     Hears new running side number request reply result
-hears_next old new running side number request reply fine has both found lines out keeps (Ok next)
+hears_next old new running side number request reply fine has both lines out keeps (Ok next)
     is_next result is =
     let heard = hearing running (exchange_of side number request reply) in
     subst (Hears new running side number request reply) (sym is) (
       fine,
-      heard_new old new heard has both found lines out keeps,
-      scans_next old new heard has both found lines out keeps next is_next,
+      heard_new old new heard has both lines out keeps,
+      scans_next old new heard has both lines out keeps next is_next,
     )
-hears_next old new running side number request reply fine has both found lines out keeps (Err e)
+hears_next old new running side number request reply fine has both lines out keeps (Err e)
     is_next result is =
     let heard = hearing running (exchange_of side number request reply) in
     hears_refused new running side number request reply result Memory is
     (afterwards fine refl (tells_heard new heard
-    (heard_new old new heard has both found lines out keeps)))
+    (heard_new old new heard has both lines out keeps)))
 
 pub swapped : {A B : Type 0} → A ⊎ B → B ⊎ A
 swapped (inl a) = inr a

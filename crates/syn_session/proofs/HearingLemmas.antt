@@ -1,6 +1,6 @@
 -- A session that scans hears that a side has begun, or what it lists.
 use Rattle.std.proofs.Common.{◌≡◌, ◌≢◌, ◌≤◌, ◌<◌, ◌^◌, ◌==◌, ℕ, Bool, true, false, option_map}
-use Rattle.std.proofs.Common.{true≢false, not, ◌||◌, if◌then◌else◌, [], ◌++◌, length, map}
+use Rattle.std.proofs.Common.{true≢false, not, ◌&&◌, if◌then◌else◌, [], ◌++◌, length, map}
 use Rattle.std.proofs.Common.{Option, Some, None, refl, sym, ap, ◌∙◌, subst, inl, inr, arith}
 use Rattle.std.proofs.Common.{append-nil}
 use Rattle.std.specs.Prelude.{All, AllPairs, Contains}
@@ -32,20 +32,19 @@ use Rattle.syn_session.specs.inner.Listing.{KeepsRequests}
 use Rattle.syn_session.specs.Hearing.{HasHeard, IsAsking, ScansOn}
 use Rattle.syn_session.specs.Sessions.{IsSession, IsStage, Tells}
 use Rattle.syn_session.specs.Stages.{AreOfScan, IsBeginningOrListing, IsOfScan, IsScanning}
-use Rattle.syn_session.specs.Stages.{IsToBegin, IsToList, begins, lists, found_on}
+use Rattle.syn_session.specs.Stages.{IsFoundOnBoth, IsToBegin, IsToList, begins, lists, found_on}
 use Rattle.syn_session.specs.Stages.{peer_of, outstanding_of, reached_by, requests_on, waiting_of}
-use Rattle.syn_session.proofs.AnswerLemmas.{heard_so, unstable_then}
+use Rattle.syn_session.proofs.AnswerLemmas.{heard_so}
 use Rattle.syn_session.proofs.HeardNext.{no_begin_in, no_list_in}
 use Rattle.syn_session.proofs.HearLemmas.{found_still}
 use Rattle.syn_session.proofs.WaitingLemmas.{alone_is, asked_has, first_is, in_filter}
 use Rattle.syn_session.proofs.WaitingLemmas.{in_map, its_number, other_number, out_before}
 use Rattle.syn_session.proofs.WaitingLemmas.{out_still, same_directory, still_in-filter}
-use Rattle.syn_session.proofs.TellingLemmas.{list_not_begin}
-use Rattle.syn_session.proofs.TellingLemmas.{either_nothing, not_across, other_side, tells_nothing}
-use Rattle.syn_session.proofs.TellingLemmas.{scans_further}
+use Rattle.syn_session.proofs.TellingLemmas.{either_false, either_nothing, list_not_begin}
+use Rattle.syn_session.proofs.TellingLemmas.{not_across, other_side, scans_further, tells_nothing}
 use Rattle.syn_path.specs.Sides.{which_of}
 use Rattle.syn_path.specs.declared.side.Side.{Side}
-use Rattle.syn_model.proofs.BaseLemmas.{or_false, contains_none, contains_one, from_map}
+use Rattle.syn_model.proofs.BaseLemmas.{contains_none, contains_one, from_map}
 use Rattle.syn_headline.proofs.StagedLemmas.{on_both}
 
 not_true : (b : Bool) → not b ≡ true → b ≡ false
@@ -85,18 +84,19 @@ module _ (kept : archive.Archive) (before now : Session) (running : Running) (si
   still_scans : now.progress ≡ None
   still_scans = answers.progress ∙ scans
 
-  -- what it told before
-  pub tells_before : (session : Session) → session.number ≡ now.number →
-      session.has_unstable_path ≡ now.has_unstable_path → session.progress ≡ now.progress →
-      Tells session running
-  tells_before session n u c =
-      tells_nothing session running (is.number ∙ sym (n ∙ answers.number_is))
-      (is.unstable ∙ sym (u ∙ answers.unstable)) (c ∙ still_scans) scanning.nothing
-
   scan_same : (on : Which) → (peer_of now on).scan ≡ (peer_of before on).scan
   scan_same =
       on_both (λ on. (peer_of now on).scan ≡ (peer_of before on).scan) side answers.scan
       (ap (λ (l : PeerState). l.scan) answers.across)
+
+  -- what it told before
+  pub tells_before : (session : Session) → session.number ≡ now.number →
+      ((on : Which) → found_on session on ≡ found_on now on) → session.progress ≡ now.progress →
+      Tells session running
+  tells_before session n f c =
+      tells_nothing session running (is.number ∙ sym (n ∙ answers.number_is))
+      (λ on. subst (λ x. IsFoundIn x on running.taken) (sym (f on ∙ ap found_of (scan_same on)))
+      (is.found on)) (c ∙ still_scans) scanning.nothing
 
   -- while it scans it waits for nothing but a begin or a listing
   neither : ((pair : ℕ) → request ≡ Begin pair → ⊥) → ((path : Path) → request ≡ ListAt path → ⊥) →
@@ -125,19 +125,27 @@ module _ (kept : archive.Archive) (before now : Session) (running : Running) (si
   found_across =
       subst (λ s. IsFoundIn (found_of s) (other side) heard.taken) (sym (scan_same (other side)))
       (found_still (found_on before (other side)) (other side) running.taken exchange
-      (scanning.found (other side)) (ap (λ b. if b then entries_in reply else 0)
-      (not_across side)) (λ e path _. other_side side e))
+      (is.found (other side)) (ap (λ b. if b then entries_in reply else 0) (not_across side))
+      (ap (λ b. b && is_not_dir reply) (not_across side)) (λ e path _. other_side side e))
 
   -- ---- a side has begun
 
   module _ (pair position : ℕ) (begin : request ≡ Begin pair) (said : reply ≡ Begun position) where
+    found_begun : IsFoundOnBoth now heard.taken
+    found_begun = on_both (λ on. IsFoundIn (found_on now on) on heard.taken) side
+        (subst (λ s. IsFoundIn (found_of s) side heard.taken) (sym (scan_same side))
+        (found_still (found_on before side) side running.taken exchange (is.found side)
+        (ap (λ (r : model.Reply). if is_side side side then entries_in r else 0) said
+        ∙ either_nothing (is_side side side))
+        (ap (λ (r : model.Reply). is_side side side && is_not_dir r) said
+        ∙ either_false (is_side side side))
+        (λ _ path e. list_not_begin path pair (sym e ∙ begin))))
+        found_across
+
     pub begun_heard : HasHeard now heard
     begun_heard = record {
       heard_is = heard_so kept before now running number request reply is side answers;
-      unstable =
-          unstable_then kept before now running number request reply is side
-          ∙ (ap (λ r. before.has_unstable_path || is_not_dir r) said
-          ∙ (or_false before.has_unstable_path ∙ sym answers.unstable));
+      found = found_begun;
       scans = still_scans;
       reached = scanning.nothing;
       of_scan = of_scan_then (subst IsOfScan (sym begin) tt);
@@ -186,15 +194,6 @@ module _ (kept : archive.Archive) (before now : Session) (running : Running) (si
         subst (λ (r : Request). WasTaken heard.taken side r (Begun position)) begin
         (subst (λ (r : model.Reply). WasTaken heard.taken side request r) said
         (number, Contains-push running.taken _))
-
-    pub found_begun : (on : Which) → IsFoundIn (found_on now on) on heard.taken
-    found_begun = on_both (λ on. IsFoundIn (found_on now on) on heard.taken) side
-        (subst (λ s. IsFoundIn (found_of s) side heard.taken) (sym (scan_same side))
-        (found_still (found_on before side) side running.taken exchange (scanning.found side)
-        (ap (λ (r : model.Reply). if is_side side side then entries_in r else 0) said
-        ∙ either_nothing (is_side side side))
-        (λ _ path e. list_not_begin path pair (sym e ∙ begin))))
-        found_across
 
     was_begun : (on : Which) (p k : ℕ) → WasTaken running.taken on (Begin p) (Begun k) →
         WasTaken heard.taken on (Begin p) (Begun k)
@@ -292,10 +291,6 @@ module _ (kept : archive.Archive) (before now : Session) (running : Running) (si
             (sym (asking.progress ∙ still_scans)) (record {
               nothing = scanning.nothing;
               of_scan = of_scan_then (subst IsOfScan (sym begin) tt);
-              found =
-                  λ on. subst (λ s. IsFoundIn (found_of s) on heard.taken)
-                  (sym (asking.peer on).scan)
-                  (found_begun on);
               at = begins (to_begin later asking);
               out =
                   λ on path is_out. absurd (nothing_out on path
@@ -330,33 +325,24 @@ module _ (kept : archive.Archive) (before now : Session) (running : Running) (si
     pub found_before : IsFoundIn (found_on now side) side running.taken
     found_before =
         subst (λ s. IsFoundIn (found_of s) side running.taken) (sym (scan_same side))
-        (scanning.found side)
+        (is.found side)
 
-    module _ (taken after : Session) (keeps : KeepsRequests now taken side)
-        (unstable : taken.has_unstable_path ≡ now.has_unstable_path)
-        (counted : after.has_unstable_path ≡ (taken.has_unstable_path || is_not_dir reply))
-        (left : after.left ≡ taken.left) (right : after.right ≡ taken.right)
-        (numbered_so : after.number ≡ taken.number)
-        (preferred_so : after.preference ≡ taken.preference) (progress : after.progress ≡
-        taken.progress)
-        (found : IsFoundIn (found_on taken side) side heard.taken)
-        (out : out_of (peer_of taken side).scan
+    module _ (after : Session) (keeps : KeepsRequests now after side)
+        (found : IsFoundIn (found_on after side) side heard.taken)
+        (out : out_of (peer_of after side).scan
         ≡ without_path (out_of (peer_of now side).scan) path) where
-      peer_same : (on : Which) → peer_of after on ≡ peer_of taken on
-      peer_same Left = left
-      peer_same Right = right
-
       waiting_same : (on : Which) → (peer_of after on).waiting ≡ (peer_of now on).waiting
-      waiting_same on =
-          ap (λ (l : PeerState). l.waiting) (peer_same on)
-          ∙ on_both (λ o. (peer_of taken o).waiting ≡ (peer_of now o).waiting) side keeps.waits
-          (ap (λ (l : PeerState). l.waiting) keeps.across) on
+      waiting_same = on_both (λ on. (peer_of after on).waiting ≡ (peer_of now on).waiting) side
+          keeps.waits (ap (λ (l : PeerState). l.waiting) keeps.across)
 
       count_same : (on : Which) → (peer_of after on).asked ≡ (peer_of now on).asked
-      count_same on =
-          ap (λ (l : PeerState). l.asked) (peer_same on)
-          ∙ on_both (λ o. (peer_of taken o).asked ≡ (peer_of now o).asked) side keeps.count
-          (ap (λ (l : PeerState). l.asked) keeps.across) on
+      count_same = on_both (λ on. (peer_of after on).asked ≡ (peer_of now on).asked) side
+          keeps.count (ap (λ (l : PeerState). l.asked) keeps.across)
+
+      listed_found : IsFoundOnBoth after heard.taken
+      listed_found = on_both (λ on. IsFoundIn (found_on after on) on heard.taken) side found
+          (subst (λ (l : PeerState). IsFoundIn (found_of l.scan) (other side) heard.taken)
+          (sym keeps.across) found_across)
 
       waits_same : (on : Which) → waiting_of (peer_of after on) ≡ waiting_of (peer_of now on)
       waits_same on = ap (λ w. map outstanding_of w.items) (waiting_same on)
@@ -365,12 +351,11 @@ module _ (kept : archive.Archive) (before now : Session) (running : Running) (si
       listed_heard =
           let h = heard_so kept before now running number request reply is side answers in record {
             heard_is = record {
-              number = h.number ∙ sym (numbered_so ∙ keeps.number_is);
+              number = h.number ∙ sym keeps.number_is;
               preference =
                   h.preference
-                  ∙ sym (ap (λ (p : Option Side). option_map which_of p)
-                  (preferred_so ∙ keeps.preference_is));
-              lawful = subst (λ n. n < 2 ^ 64) (sym (numbered_so ∙ keeps.number_is)) h.lawful;
+                  ∙ sym (ap (λ (p : Option Side). option_map which_of p) keeps.preference_is);
+              lawful = subst (λ n. n < 2 ^ 64) (sym keeps.number_is) h.lawful;
               peer =
                   λ on. record {
                     waits = (h.peer on).waits ∙ sym (waits_same on);
@@ -389,20 +374,11 @@ module _ (kept : archive.Archive) (before now : Session) (running : Running) (si
                   };
               once = h.once;
             };
-            unstable =
-                unstable_then kept before now running number request reply is side ∙ (ap
-                (λ b. b || is_not_dir reply) (sym (unstable ∙ answers.unstable)) ∙ sym counted);
-            scans = progress ∙ (keeps.progress ∙ still_scans);
+            found = listed_found;
+            scans = keeps.progress ∙ still_scans;
             reached = scanning.nothing;
             of_scan = of_scan_then (subst IsOfScan (sym listing) tt);
           }
-
-      pub listed_found : (on : Which) → IsFoundIn (found_on after on) on heard.taken
-      listed_found on =
-          subst (λ (l : PeerState). IsFoundIn (found_of l.scan) on heard.taken) (sym (peer_same on))
-          (on_both (λ o. IsFoundIn (found_on taken o) o heard.taken) side found
-          (subst (λ (l : PeerState). IsFoundIn (found_of l.scan) (other side) heard.taken)
-          (sym keeps.across) found_across) on)
 
       pub listed_begun : BothBegun heard.taken
       listed_begun on =
@@ -410,7 +386,7 @@ module _ (kept : archive.Archive) (before now : Session) (running : Running) (si
           (was.0, was.1, (was.2.0, Contains-append_left running.taken _ _ was.2.1))
 
       across_same : peer_of after (other side) ≡ peer_of before (other side)
-      across_same = peer_same (other side) ∙ (keeps.across ∙ answers.across)
+      across_same = keeps.across ∙ answers.across
 
       -- what waits on the side still waited there, under another number
       waits_here : waiting_of (peer_of after side)
@@ -419,9 +395,7 @@ module _ (kept : archive.Archive) (before now : Session) (running : Running) (si
 
       out_here : out_of (peer_of after side).scan
           ≡ without_path (out_of (peer_of before side).scan) path
-      out_here =
-          ap (λ (l : PeerState). out_of l.scan) (peer_same side)
-          ∙ (out ∙ ap (λ s. without_path (out_of s) path) answers.scan)
+      out_here = out ∙ ap (λ s. without_path (out_of s) path) answers.scan
 
       -- no other listing that waits is of that directory
       other_directory : (one : Outstanding) (q : Path) →

@@ -1,28 +1,33 @@
 -- A scan goes on with what its side answers.
-use Rattle.std.proofs.Common.{◌≡◌, ◌⊎◌, ◌+◌, ◌-◌, ℕ, Bool, true, false, cond, not, ◌&&◌}
+use Rattle.std.proofs.Common.{◌≡◌, ◌⊎◌, ◌+◌, ◌-◌, ℕ, Bool, true, false, cond, not, ◌&&◌, ◌||◌}
 use Rattle.std.proofs.Common.{if◌then◌else◌, nat_lt, length, List, [], ◌∷◌, Option, Some}
 use Rattle.std.proofs.Common.{None, Ordering, Less, Equal, Greater, refl, sym, ap, ap₂, ◌∙◌}
 use Rattle.std.proofs.Common.{subst, inl, inr, arith, slice_index_or, is_some, is_lt}
 use Rattle.std.specs.Prelude.{Contains, IfSome}
-use Rattle.std.specs.List.{sum_by}
+use Rattle.std.specs.List.{list_any, sum_by}
+use Rattle.std.specs.Cmp.{eq_by_cmp_equiv}
 use Rattle.std.specs.Ordering.{eq_by_cmp}
 use Rattle.std.specs.FinMap.{get, insert, contains_key, empty, get-insert, get-empty, len}
-use Rattle.std.specs.FinMap.{len-empty, len-insert}
+use Rattle.std.specs.FinMap.{contains_key-keys, keys, len-empty, len-insert}
 use Rattle.std.proofs.lemmas.Grind.{get_or_tail}
 use Rattle.std.specs.FinMap.Entries.{is_sorted, below_all}
 use Rattle.std.proofs.lemmas.Bool.{and_parts, false≢true, false_from_ne_true}
+use Rattle.std.proofs.Math.Bool.{or-true}
 use Rattle.std.proofs.lemmas.List.Elements.{Contains-append_left, Contains-push}
 use Rattle.std.proofs.lemmas.List.Elements.{Contains-push_cases}
+use Rattle.std.proofs.lemmas.List.Folds.{Any-from_list_any, list_any-append}
+use Rattle.std.proofs.lemmas.Map.Views.{list_any-from_Contains}
 use Rattle.std.proofs.lemmas.List.Sums.{sum_by-append}
 use Rattle.std.proofs.lemmas.Option.{none-some, same_Some}
 use Rattle.syn_headline.specs.Network.{Which, Left, Right, is_side}
 use Rattle.syn_headline.specs.Session.{Exchange, WasTaken, IsShown, nodes_shown, entries_in}
-use Rattle.syn_headline.specs.Session.{fault_of}
+use Rattle.syn_headline.specs.Session.{fault_of, is_not_dir}
 use Rattle.syn_model.specs.Limits.{most_nodes}
 use Rattle.syn_headline.specs.Side.{ListAt, Listed, NotDir}
 use Rattle.syn_headline.specs.Side as model
 use Rattle.syn_message.specs.Listings.{AreRising}
-use Rattle.syn_model.specs.Path.{Path, Name, path_cmp, name_cmp, root}
+use Rattle.syn_model.specs.Path.{Path, Name, is_prefix, path_cmp, name_cmp, root}
+use Rattle.syn_model.proofs.BaseLemmas.{or_false}
 use Rattle.syn_model.specs.Refusal.{Memory, TooLarge, BadMessage}
 use Rattle.syn_model.specs.Tree.{Content, Directory, empty_directory}
 use Rattle.syn_model.proofs.PathLemmas.{path_total, name_total, path_itself, same_path}
@@ -32,7 +37,8 @@ use Rattle.syn_scan.specs.Found.{Found, Positions, IsShownIn, WasNoDirectoryIn}
 use Rattle.syn_scan.specs.Refusals.{refusal_of}
 use Rattle.syn_scan.specs.declared.error.ScanError.{ScanError}
 use Rattle.syn_scan.specs.declared.error.ScanError.TheVariants as error
-use Rattle.syn_session.specs.Scanning.{Exchanges, IsFoundIn, WasAnswered, with_listing_answered}
+use Rattle.syn_session.specs.Scanning.{Exchanges, IsFoundIn, WasAnswered, shows_unstable}
+use Rattle.syn_session.specs.Scanning.{told_unstable, with_listing_answered}
 
 -- ---- positions
 
@@ -61,6 +67,15 @@ one_node =
     (len (empty {X = Content} {R = path_cmp})) (len (empty {X = Content} {R = path_cmp}) + 1))
     (get-empty path_cmp root) ∙ ap (λ n. n + 1) (len-empty path_cmp Content))
 
+none_unstable : (b : Bool) → shows_unstable nothing_found ≡ b → b ≡ false
+none_unstable false e = refl
+none_unstable true e =
+    let at = Any-from_list_any (is_prefix root) (keys nothing_found.not_dirs) e in
+    absurd (false≢true (sym (ap is_some (get-empty path_cmp at.1))
+    ∙ (contains_key-keys nothing_found.not_dirs at.1
+    ∙ list_any-from_Contains (eq_by_cmp_equiv path_total) at.1 (keys nothing_found.not_dirs)
+    (at.0, at.2, at.3))))
+
 pub nothing_is_found : (side : Which) → IsFoundIn nothing_found side []
 nothing_is_found side = record {
   listed =
@@ -68,6 +83,7 @@ nothing_is_found side = record {
       (none-some _ (sym (get-empty path_cmp path) ∙ was.answered));
   not_dir = λ path position was. absurd (none-some _ (sym (get-empty path_cmp path) ∙ was));
   nodes = sym one_node;
+  unstable = sym (none_unstable (shows_unstable nothing_found) refl);
   only = λ exchange path c. absurd (omega (arith, c.1));
 }
 
@@ -112,6 +128,14 @@ module _ (found : Found) (side : Which) (taken : Exchanges) (f : IsFoundIn found
     where
       add : (a b : ℕ) → 1 + (a + (0 + b)) ≡ 1 + a + b
       add a b = omega arith
+
+  unstable_then : (reply : model.Reply) →
+      told_unstable (with_listing_answered taken side number path reply) side
+      ≡ (told_unstable taken side || is_not_dir reply)
+  unstable_then reply =
+      list_any-append (λ exchange. is_side side exchange.side && is_not_dir exchange.reply) taken _
+      ∙ (ap (λ b. told_unstable taken side || ((b && is_not_dir reply) || false)) (own_side side)
+      ∙ ap (λ b. told_unstable taken side || b) (or_false (is_not_dir reply)))
 
   same_listing : (p : Path) → ListAt p ≡ ListAt path → p ≡ path
   same_listing p e = ap path_in e
@@ -161,6 +185,9 @@ module _ (found : Found) (side : Which) (taken : Exchanges) (f : IsFoundIn found
       not_dir = λ at since was. still_taken (Listed position entries) _ _ (f.not_dir at since was);
       nodes =
           nodes_then (Listed position entries) ∙ (ap (λ n. n + length entries) f.nodes ∙ sym nodes);
+      unstable =
+          unstable_then (Listed position entries) ∙ (or_false (told_unstable taken side)
+          ∙ f.unstable);
       only =
           only_then (with_listing found path position entries)
           (Listed position entries) keeps_answers (inl (now_known found.listed path position));
@@ -202,6 +229,11 @@ module _ (found : Found) (side : Which) (taken : Exchanges) (f : IsFoundIn found
           (f.listed at since shows (record { answered = was.answered; shows = was.shows }));
       not_dir = λ at since was. which at since was (eq_by_cmp path_cmp at path) refl;
       nodes = nodes_then (NotDir position) ∙ (none (nodes_shown taken side) ∙ f.nodes);
+      unstable =
+          unstable_then (NotDir position) ∙ (or-true (told_unstable taken side)
+          ∙ sym (any_below (keys (insert found.not_dirs path position))
+          (sym (contains_key-keys (insert found.not_dirs path position) path)
+          ∙ now_known found.not_dirs path position)));
       only =
           only_then (with_no_directory found path position) (NotDir position) keeps_known
           (inr (now_known found.not_dirs path position));
@@ -209,6 +241,11 @@ module _ (found : Found) (side : Which) (taken : Exchanges) (f : IsFoundIn found
       where
         none : (n : ℕ) → n + 0 ≡ n
         none n = omega arith
+
+        any_below : (ps : List Path) → list_any (eq_by_cmp path_cmp path) ps ≡ true →
+            list_any (is_prefix root) ps ≡ true
+        any_below [] e = e
+        any_below (p ∷ ps) e = refl
 
         which : (at : Path) (since : ℕ) →
             WasNoDirectoryIn (with_no_directory found path position) at since → (b : Bool) →

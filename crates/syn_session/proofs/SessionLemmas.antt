@@ -90,7 +90,7 @@ only_begin preference number pair Right n a (inr (resent, has)) = by
 module _ (archive : model.Archive) (session : Session) (preference : Option Which) (number pair : ℕ)
     (numbered : session.number ≡ number)
     (preferred : option_map which_of session.preference ≡ preference) (lawful : number < 2 ^ 64)
-    (stable : session.has_unstable_path ≡ false) (scans : session.progress ≡ None)
+    (scans : session.progress ≡ None)
     (waits : (side : Which) → waiting_of (peer_of session side) ≡ begin_of pair)
     (of : (side : Which) → AreOfSession number (peer_of session side))
     (asked : (side : Which) → (peer_of session side).asked ≡ 1)
@@ -106,13 +106,12 @@ module _ (archive : model.Archive) (session : Session) (preference : Option Whic
     once =
         λ side m n a b was_m was_n _. only_begin preference number pair side m a was_m
         ∙ sym (only_begin preference number pair side n b was_n);
-    unstable = sym stable;
+    found = found;
     stage =
         subst (λ progress. IsStage archive session progress
         [] (record { plan = None; cursor = 0; kept = []; refused = [] })) (sym scans) (record {
           nothing = refl;
           of_scan = λ exchange has. absurd (contains_none _ has);
-          found = found;
           at =
               begins (λ side. inl (
                 pair,
@@ -149,8 +148,6 @@ module _ (archive : model.Archive) (old new : Session) (taken : List Exchange) (
   stage_still None is = record {
     nothing = is.nothing;
     of_scan = is.of_scan;
-    found =
-        λ side. subst (λ s. IsFoundIn (found_of s) side taken) (sym (scan side)) (is.found side);
     at = at_still is.at;
     out =
         λ side path waits. subst (λ l. Contains l (ListAt path)) (sym (same side))
@@ -205,7 +202,6 @@ was_once waiting n a k has =
 module _ (archive : model.Archive) (old new : Session) (running : Running)
     (is : IsSession archive old running) (number : new.number ≡ old.number)
     (preferred : new.preference ≡ old.preference)
-    (unstable : new.has_unstable_path ≡ old.has_unstable_path)
     (progress : new.progress ≡ old.progress)
     (again : (side : Which) → SentAgain (peer_of old side) (peer_of new side)) where
   waits_again : (side : Which) →
@@ -261,7 +257,9 @@ module _ (archive : model.Archive) (old new : Session) (running : Running)
     once =
         λ side m n a b was_m was_n repeat. is.once side m n a b (was_asked side m a was_m)
         (was_asked side n b was_n) repeat;
-    unstable = is.unstable ∙ sym unstable;
+    found =
+        λ side. subst (λ s. IsFoundIn (found_of s) side running.taken) (sym (again side).scan)
+        (is.found side);
     stage =
         stage_goes_on archive old new running.taken (reached_by running) (λ side.
         ap (map (λ (one : Outstanding). one.request)) (again side).waits

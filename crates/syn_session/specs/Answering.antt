@@ -26,7 +26,6 @@ pub record IsAnswering (old new : Session) (side : Which) (number : ℕ) (reques
   pub across : peer_of new (other side) ≡ peer_of old (other side)
   pub number_is : new.number ≡ old.number
   pub preference_is : new.preference ≡ old.preference
-  pub unstable : new.has_unstable_path ≡ old.has_unstable_path
   pub progress : new.progress ≡ old.progress
 
 -- a session with these exchanges, whatever it is at

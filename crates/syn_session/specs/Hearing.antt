@@ -1,8 +1,7 @@
 -- What a session that scans comes to with an answer.
 use Rattle.std.specs.Prelude.{◌≡◌, ◌⊎◌, ◌≤◌, ◌+◌, ◌++◌, ℕ, length, [], Some, None, Contains}
 use Rattle.std.specs.Prelude.{AllPairs, Result, Ok, Err}
-use Rattle.syn_headline.specs.Coordinator.{Exchange, MayWait, Running, hearing, took_not_dir}
-use Rattle.syn_headline.specs.Coordinator.{numbered}
+use Rattle.syn_headline.specs.Coordinator.{Exchange, MayWait, Running, hearing, numbered}
 use Rattle.syn_headline.specs.Network.{Which, IsRepeat}
 use Rattle.syn_headline.specs.Session.{BothBegun, MayAsk, WasAsked, fault_of}
 use Rattle.syn_headline.specs.Side.{IsLawfulBody, Reply, Request}
@@ -12,10 +11,9 @@ use Rattle.syn_refusal.specs.Refusals.{cause_of}
 use Rattle.syn_refusal.specs.declared.refusal.Refusal.{Refusal}
 use Rattle.syn_scan.specs.Found.{IsWhole}
 use Rattle.syn_session.specs.Answering.{IsAskedOn, IsHeard, asks_of, exchange_of}
-use Rattle.syn_session.specs.Scanning.{IsFoundIn}
 use Rattle.syn_session.specs.Sessions.{IsStage, Tells}
-use Rattle.syn_session.specs.Stages.{AreOfScan, found_on, peer_of, nothing_reached, reached_by}
-use Rattle.syn_session.specs.Stages.{waiting_of}
+use Rattle.syn_session.specs.Stages.{AreOfScan, IsFoundOnBoth, found_on, nothing_reached}
+use Rattle.syn_session.specs.Stages.{peer_of, reached_by, waiting_of}
 use Rattle.syn_session.specs.declared.hearing.Heard.{Heard}
 use Rattle.syn_session.specs.declared.hearing.Heard.TheVariants.{Ask, Scanned}
 use Rattle.syn_session.specs.declared.session.Asks.{Asks}
@@ -50,7 +48,6 @@ pub record MayGoOn (archive : model.Archive) (session : Session) (heard : Runnin
 -- it has taken the answer, and goes on to scan; or each directory of both sides was answered
 pub record IsScanned (session : Session) (heard : Running) : Type 0 where
   pub begun : BothBegun heard.taken
-  pub found : (side : Which) → IsFoundIn (found_on session side) side heard.taken
   pub whole : (side : Which) → IsWhole (found_on session side)
   pub silent : (side : Which) → waiting_of (peer_of session side) ≡ []
 
@@ -61,7 +58,7 @@ ScansOn session heard Scanned = IsScanned session heard
 
 pub record HasHeard (session : Session) (heard : Running) : Type 0 where
   pub heard_is : IsHeard session heard
-  pub unstable : took_not_dir heard ≡ session.has_unstable_path
+  pub found : IsFoundOnBoth session heard.taken
   pub scans : session.progress ≡ None
   pub reached : reached_by heard ≡ nothing_reached
   pub of_scan : AreOfScan heard.taken

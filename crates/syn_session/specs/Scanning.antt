@@ -1,14 +1,17 @@
 -- What a scan of one side was told, by the transcript of its session.
-use Rattle.std.specs.Prelude.{◌≡◌, ◌⊎◌, ◌++◌, ℕ, true, List, [], ◌∷◌, Contains}
+use Rattle.std.specs.Prelude.{◌≡◌, ◌⊎◌, ◌++◌, ◌&&◌, ℕ, Bool, true, List, [], ◌∷◌, Contains}
 use Rattle.std.specs.FinMap.{len}
-use Rattle.syn_headline.specs.Network.{Which}
-use Rattle.syn_headline.specs.Session.{Exchange, WasTaken, nodes_shown}
+use Rattle.std.specs.List.{list_any}
+use Rattle.syn_headline.specs.Network.{Which, is_side}
+use Rattle.syn_headline.specs.Session.{Exchange, WasTaken, is_not_dir, nodes_shown}
 use Rattle.syn_headline.specs.Side.{ListAt, Listed, NotDir}
 use Rattle.syn_headline.specs.Side as model
-use Rattle.syn_model.specs.Path.{Path, Name}
+use Rattle.syn_model.specs.Dirty.{has_unstable}
+use Rattle.syn_model.specs.Path.{Path, Name, root}
 use Rattle.syn_model.specs.Tree.{Content}
 use Rattle.syn_scan.specs.Asked.{Asked, is_out}
-use Rattle.syn_scan.specs.Found.{Found, WasListedIn, WasNoDirectoryIn, was_listed, was_no_directory}
+use Rattle.syn_scan.specs.Found.{Found, WasListedIn, WasNoDirectoryIn, scan_of, was_listed}
+use Rattle.syn_scan.specs.Found.{was_no_directory}
 use Rattle.syn_session.specs.declared.side_scan.SideScan.{SideScan}
 
 abbrev pub Exchanges : Type 0
@@ -36,6 +39,15 @@ WasNoDirectoryAt taken side path position = WasTaken taken side (ListAt path) (N
 abbrev pub WasAnswered : Found → Path → Type 0
 WasAnswered found path = (was_listed found path ≡ true) ⊎ (was_no_directory found path ≡ true)
 
+-- the side answered of a path that no directory is there
+abbrev pub told_unstable : Exchanges → Which → Bool
+told_unstable taken side =
+    list_any (λ exchange. is_side side exchange.side && is_not_dir exchange.reply) taken
+
+-- such an answer is for a path of the scan
+abbrev pub shows_unstable : Found → Bool
+shows_unstable found = has_unstable (scan_of found) root
+
 -- What was found is what the side answered in these exchanges, and all of it
 pub record IsFoundIn (found : Found) (side : Which) (taken : Exchanges) : Type 0 where
   pub listed : (path : Path) (position : ℕ) (entries : List (Name × Content)) →
@@ -44,6 +56,7 @@ pub record IsFoundIn (found : Found) (side : Which) (taken : Exchanges) : Type 0
   pub not_dir : (path : Path) (position : ℕ) → WasNoDirectoryIn found path position →
       WasTaken taken side (ListAt path) (NotDir position)
   pub nodes : nodes_shown taken side ≡ len found.marks
+  pub unstable : told_unstable taken side ≡ shows_unstable found
   pub only : (exchange : Exchange) (path : Path) → Contains taken exchange →
       exchange.side ≡ side → exchange.request ≡ ListAt path → WasAnswered found path
 

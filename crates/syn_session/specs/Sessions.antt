@@ -4,7 +4,7 @@ use Rattle.std.specs.Prelude.{◌≡◌, ◌<◌, ◌≤◌, ◌^◌, ℕ, suc, 
 use Rattle.std.specs.Prelude.{All, is_some, not, ◌&&◌, ◌||◌, if◌then◌else◌, Option, Some, None}
 use Rattle.syn_headline.specs.Coordinator.{Outstanding, Running, begins, asking, new_session}
 use Rattle.syn_headline.specs.Coordinator.{messages_to, once_more, outstanding, asked_count}
-use Rattle.syn_headline.specs.Coordinator.{AreRising, AsksOnce, Exchange, MayWait, took_not_dir}
+use Rattle.syn_headline.specs.Coordinator.{AreRising, AsksOnce, Exchange, MayWait}
 use Rattle.syn_headline.specs.Coordinator.{most_resends}
 use Rattle.syn_headline.specs.Network.{Which, Left, Right, Message}
 use Rattle.syn_headline.specs.Report.{End, Complete, Incomplete}
@@ -13,8 +13,9 @@ use Rattle.syn_model.specs.Archive as model
 use Rattle.syn_model.specs.Refusal.{Refusal}
 use Rattle.syn_scan.specs.Found.{Found}
 use Rattle.syn_session.specs.Sendings.{messages_waiting}
-use Rattle.syn_session.specs.Stages.{AreOfSession, IsCarrying, IsPlanProgress, IsScanning}
-use Rattle.syn_session.specs.Stages.{Reached, nothing_reached, peer_of, reached_by, waiting_of}
+use Rattle.syn_session.specs.Stages.{AreOfSession, IsCarrying, IsFoundOnBoth, IsPlanProgress}
+use Rattle.syn_session.specs.Stages.{IsScanning, Reached, nothing_reached, peer_of, reached_by}
+use Rattle.syn_session.specs.Stages.{waiting_of}
 use Rattle.syn_session.specs.declared.plan_progress.PlanProgress.{PlanProgress}
 use Rattle.syn_session.specs.declared.peer.PeerState.{PeerState}
 use Rattle.syn_session.specs.declared.requests.UnansweredRequest.{UnansweredRequest}
@@ -63,7 +64,7 @@ pub record IsSession (archive : model.Archive) (session : Session) (running : Ru
   pub lawful : session.number < 2 ^ 64
   pub peer : (side : Which) → IsPeer (peer_of session side) running side
   pub once : AsksOnce running
-  pub unstable : took_not_dir running ≡ session.has_unstable_path
+  pub found : IsFoundOnBoth session running.taken
   pub stage : IsStage archive session session.progress running.taken (reached_by running)
 
 -- both run no session, or the same one
@@ -80,7 +81,7 @@ TellsOf (Some progress) reached =
 
 pub record Tells (session : Session) (running : Running) : Type 0 where
   pub number : running.session ≡ session.number
-  pub unstable : took_not_dir running ≡ session.has_unstable_path
+  pub found : IsFoundOnBoth session running.taken
   pub told : TellsOf session.progress (reached_by running)
 
 -- how a session ends, by what ended it early, how many items were refused, and whether a path was

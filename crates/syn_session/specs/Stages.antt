@@ -62,6 +62,10 @@ peer_of session Right = session.right
 abbrev pub found_on : Session → Which → Found
 found_on session side = found_of (peer_of session side).scan
 
+-- what was found on both sides is what they answered
+abbrev pub IsFoundOnBoth : Session → List Exchange → Type 0
+IsFoundOnBoth session taken = (side : Which) → IsFoundIn (found_on session side) side taken
+
 -- How far a session came: its plan, the item that it has come to, and what it recorded and refused
 pub record Reached : Type 0 where
   pub plan : Option Plan
@@ -115,7 +119,6 @@ pub record IsScanning (session : Session) (taken : List Exchange) (reached : Rea
     : Type 0 where
   pub nothing : reached ≡ nothing_reached
   pub of_scan : AreOfScan taken
-  pub found : (side : Which) → IsFoundIn (found_on session side) side taken
   pub at : IsBeginningOrListing session taken
   pub out : (side : Which) (path : Path) → WaitsFor (peer_of session side).scan path →
       Contains (requests_on (peer_of session side)) (ListAt path)

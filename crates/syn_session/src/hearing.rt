@@ -14,7 +14,7 @@ ghost use Rattle.syn_session.specs.Scanning.{Exchanges};
 ghost use Rattle.syn_session.specs.inner.Listing.{is_silent};
 
 use crate::peer::PeerState;
-use crate::session::{Asks, Session, is_no_directory};
+use crate::session::{Asks, Session};
 use std::alloc::{AllocError, Global};
 use syn_message::{Reply, Request};
 use syn_path::{Path, Side};
@@ -92,9 +92,7 @@ impl Session {
             → Hears self.new running (which_of from) number (ListAt path.now) (reply_of reply)
             result }
     {
-        let is_no_directory = is_no_directory(&reply);
         self.take_listing(alloc, from, path, reply)?;
-        self.note_unstable(is_no_directory);
         self.scan_on(alloc).map_err(|_| Refusal::Memory)
     }
 

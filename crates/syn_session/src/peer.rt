@@ -114,6 +114,7 @@ impl PeerState {
     ) -> Result<(), AllocError>
         ensures asked { OnOk result (IsAskedOn session self.old self.new
             (request_of request ∷ [])) }
+        ensures scan { self.new.scan ≡ self.old.scan }
         ensures ok { OnOk result (messages_of sends.new.items ≡ messages_of sends.old.items
             ++ messages_to session (which_of to)
             (numbered self.old.asked (request_of request ∷ []))) }
@@ -141,6 +142,7 @@ impl PeerState {
     ) -> Result<(), AllocError>
         ensures asked { OnOk result (IsAskedOn session self.old self.new
             (map ListAt paths.items)) }
+        ensures scan { self.new.scan ≡ self.old.scan }
         ensures ok { OnOk result (messages_of sends.new.items ≡ messages_of sends.old.items
             ++ messages_to session (which_of to)
             (numbered self.old.asked (map ListAt paths.items))) }

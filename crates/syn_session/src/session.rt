@@ -1,9 +1,9 @@
 //! A session that runs.
-ghost use Rattle.std.specs.Prelude.{◌≡◌, ◌<◌, ◌^◌, ◌⊎◌, ◌||◌, ◌++◌, ◌∷◌, [], ℕ, None, Some, false};
-ghost use Rattle.std.specs.Prelude.{IfOk, IfSome, MatchResult, OnOk, length, map, nat_lt};
+ghost use Rattle.std.specs.Prelude.{◌≡◌, ◌<◌, ◌^◌, ◌⊎◌, ◌++◌, ◌∷◌, [], ℕ, None, Some, false};
+ghost use Rattle.std.specs.Prelude.{IfOk, IfSome, MatchResult, OnErr, OnOk, length, map, nat_lt};
 ghost use Rattle.std.specs.Prelude.{option_map};
-ghost use Rattle.syn_headline.specs.Coordinator.{Running, asked_in, is_not_dir, messages_to};
-ghost use Rattle.syn_headline.specs.Coordinator.{numbered, report_of};
+ghost use Rattle.syn_headline.specs.Coordinator.{Running, asked_in, messages_to, numbered};
+ghost use Rattle.syn_headline.specs.Coordinator.{report_of, took_not_dir};
 ghost use Rattle.syn_headline.specs.Network.{Left, Right, other};
 ghost use Rattle.syn_headline.specs.Session.{fault_of};
 ghost use Rattle.syn_headline.specs.Side.{ListAt};
@@ -37,8 +37,6 @@ pub struct Session {
     pub preference: Option<Side>,
     pub left: PeerState,
     pub right: PeerState,
-    /// A path changed its kind under the scan: it was answered as no directory.
-    pub has_unstable_path: bool,
     /// Its plan, once both scans are whole.
     pub progress: Option<PlanProgress>,
 }
@@ -85,7 +83,6 @@ impl Session {
             preference,
             left,
             right,
-            has_unstable_path: false,
             progress: None,
         })
     }
@@ -173,25 +170,13 @@ impl Session {
         ensures out { OnOk result (out_of (peer_of self.new (which_of from)).scan
             ≡ without (out_of (peer_of self.old (which_of from)).scan) path.now) }
         ensures keeps { KeepsRequests self.old self.new (which_of from) }
-        ensures unstable { self.new.has_unstable_path ≡ self.old.has_unstable_path }
+        ensures same { OnErr result (found_on self.new (which_of from)
+            ≡ found_on self.old (which_of from)) }
     {
         match from {
             Side::Left => self.left.scan.take(alloc, path, reply),
             Side::Right => self.right.scan.take(alloc, path, reply),
         }
-    }
-
-    /// Notes whether a path that was listed is no directory any more.
-    pub(crate) fn note_unstable(&mut self, is_no_directory: bool)
-        ensures unstable { self.new.has_unstable_path ≡
-            (self.old.has_unstable_path || is_no_directory) }
-        ensures left { self.new.left ≡ self.old.left }
-        ensures right { self.new.right ≡ self.old.right }
-        ensures number { self.new.number ≡ self.old.number }
-        ensures preference { self.new.preference ≡ self.old.preference }
-        ensures progress { self.new.progress ≡ self.old.progress }
-    {
-        self.has_unstable_path = self.has_unstable_path || is_no_directory;
     }
 
     /// Whether a request waits on the side.
@@ -213,7 +198,8 @@ impl Session {
             (asks_of asks Right)) }
         ensures number { self.new.number ≡ self.old.number }
         ensures preference { self.new.preference ≡ self.old.preference }
-        ensures unstable { self.new.has_unstable_path ≡ self.old.has_unstable_path }
+        ensures left_scan { self.new.left.scan ≡ self.old.left.scan }
+        ensures right_scan { self.new.right.scan ≡ self.old.right.scan }
         ensures progress { self.new.progress ≡ self.old.progress }
         ensures sends { IfOk result (λ sends. messages_of sends.items
             ≡ messages_asked self.old asks) }
@@ -237,7 +223,8 @@ impl Session {
             (map ListAt right.items)) }
         ensures number { self.new.number ≡ self.old.number }
         ensures preference { self.new.preference ≡ self.old.preference }
-        ensures unstable { self.new.has_unstable_path ≡ self.old.has_unstable_path }
+        ensures left_scan { self.new.left.scan ≡ self.old.left.scan }
+        ensures right_scan { self.new.right.scan ≡ self.old.right.scan }
         ensures progress { self.new.progress ≡ self.old.progress }
         ensures sends { IfOk result (λ sends. messages_of sends.items
             ≡ messages_to self.old.number Left
@@ -266,7 +253,8 @@ impl Session {
             ≡ peer_of self.old (other (which_of side)) }
         ensures number { self.new.number ≡ self.old.number }
         ensures preference { self.new.preference ≡ self.old.preference }
-        ensures unstable { self.new.has_unstable_path ≡ self.old.has_unstable_path }
+        ensures left_scan { self.new.left.scan ≡ self.old.left.scan }
+        ensures right_scan { self.new.right.scan ≡ self.old.right.scan }
         ensures progress { self.new.progress ≡ self.old.progress }
         ensures sends { IfOk result (λ sends. messages_of sends.items
             ≡ messages_to self.old.number (which_of side)
@@ -284,21 +272,29 @@ impl Session {
         Ok(sends)
     }
 
+    /// Whether a path changed its kind under one of the scans: it was answered as no directory.
+    fn has_unstable_path(&self, alloc: Global) -> bool
+        ensures { (running : Running) → Tells self.now running → result ≡ took_not_dir running }
+    {
+        self.left.scan.has_unstable_path(alloc) || self.right.scan.has_unstable_path(alloc)
+    }
+
     /// What it reports where it ends so: early for a refusal, or as it came through its plan. It
     /// takes no memory.
     pub fn into_report(self, alloc: Global, ended: Option<Refusal>) -> Report
         ensures { (running : Running) → Tells self running
             → report_model result ≡ report_of running (option_map cause_of ended) }
     {
+        let has_unstable_path = self.has_unstable_path(alloc);
         let progress = self.progress;
-        // Nothing of the scans is reported.
+        // Nothing else of the scans is reported.
         drop(self.left);
         drop(self.right);
         match progress {
-            Some(progress) => planned_report(self.number, self.has_unstable_path, progress, ended),
+            Some(progress) => planned_report(self.number, has_unstable_path, progress, ended),
             None => Report {
                 session: self.number,
-                end: end_for(ended, 0, self.has_unstable_path),
+                end: end_for(ended, 0, has_unstable_path),
                 ended,
                 done: 0,
                 marked: 0,
@@ -336,13 +332,6 @@ fn planned_report(
         conflicts: progress.conflicts,
         refused: progress.refused,
     }
-}
-
-/// No directory is at the path that was to be listed.
-pub(crate) fn is_no_directory(reply: &Reply) -> bool
-    ensures { result ≡ is_not_dir (reply_of reply.now) }
-{
-    matches!(reply, Reply::NotDir { .. })
 }
 
 /// How a session ends, by what ended it early, how many items were refused, and whether a path was

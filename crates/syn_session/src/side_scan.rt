@@ -1,6 +1,6 @@
 //! The scan of one side in a session.
 ghost use Rattle.std.specs.Prelude.{◌≡◌, ◌⊎◌, ℕ, [], IfOk, IfSome, IfNone, MatchResult};
-ghost use Rattle.std.specs.Prelude.{None, OnOk, Some};
+ghost use Rattle.std.specs.Prelude.{None, OnErr, OnOk, Some};
 ghost use Rattle.syn_scan.specs.Asked.{AreAllOut, handed_out, without};
 ghost use Rattle.syn_headline.specs.Network.{Which};
 ghost use Rattle.syn_headline.specs.Session.{IsShown, fault_of};
@@ -27,7 +27,7 @@ pub struct SideScan {
 impl SideScan {
     ghost use Rattle.syn_session.specs.Scanning.{Exchanges, IsFoundIn, WaitsFor, WasAnswered};
     ghost use Rattle.syn_session.specs.Scanning.{asked_of, found_of, out_of, with_listing_answered};
-    ghost use Rattle.syn_session.specs.Scanning.{WasListedAt, WasNoDirectoryAt};
+    ghost use Rattle.syn_session.specs.Scanning.{WasListedAt, WasNoDirectoryAt, shows_unstable};
 
     /// Nothing is asked yet. Refused 11 where memory is refused.
     pub fn new(alloc: Global) -> Result<SideScan, AllocError>
@@ -75,6 +75,7 @@ impl SideScan {
             ⊎ (fault_of taken side (ListAt path.now) (reply_of reply) ≡ Some (cause_of e))) }
         // It waits for that no more.
         ensures out { OnOk result (out_of self.new ≡ without (out_of self.old) path.now) }
+        ensures same { OnErr result (found_of self.new ≡ found_of self.old) }
     {
         match reply {
             Reply::Listed { position, entries } => {
@@ -103,6 +104,13 @@ impl SideScan {
             (position_of result.now) }
     {
         self.scanner.scan()
+    }
+
+    /// Whether a path was answered as no directory. It takes no memory.
+    pub(crate) fn has_unstable_path(&self, alloc: Global) -> bool
+        ensures { result ≡ shows_unstable (found_of self.now) }
+    {
+        self.scan().unstable(&Path::root(alloc))
     }
 
     /// The scan, once each directory was answered. It takes no memory.

@@ -75,5 +75,4 @@ pub record KeepsFound (old new : Session) : Type 0 where
   pub found : (side : Which) → found_on new side ≡ found_on old side
   pub number_is : new.number ≡ old.number
   pub preference_is : new.preference ≡ old.preference
-  pub unstable : new.has_unstable_path ≡ old.has_unstable_path
   pub progress : new.progress ≡ old.progress

@@ -108,8 +108,8 @@ returns-in-Ok-ask-clause-step g c pair machine stands =
     (reply_of c.args.reply) it.0 _ _ _ (ap is_some c.in-Some.is) it.1
     (asked_so pair machine it.0 (taken g k pair machine stands) _ c.take-taken.new.session
     c.ask.new.self _ c.in-Ok.asks on.0 (quiet g k pair machine stands) asked_on
-    c.in-Ok-ask.ensures.number c.in-Ok-ask.ensures.preference c.in-Ok-ask.ensures.unstable
-    c.in-Ok-ask.ensures.progress on.1 refl _ c.in-Ok-ask.ensures.sends)
+    c.in-Ok-ask.ensures.number c.in-Ok-ask.ensures.preference c.in-Ok-ask.ensures.progress on.1 refl
+    _ c.in-Ok-ask.ensures.sends)
   where
     asked_on : (side : Which) → IsAskedOn c.take-taken.new.session.number
         (peer_of c.take-taken.new.session side) (peer_of c.ask.new.self side)
@@ -136,7 +136,8 @@ returns-in-Err-ask-clause-step g c pair machine stands =
     (quiet g k pair machine stands) on.1 c.take-taken.new.session c.in-Ok.asks _
     (ap messages_of c.end.ensures.silent) on.0 (λ now tells. c.end.ensures.report _ now refl
     (tells_same c.take-taken.new.session c.ask.new.self now c.in-Err-ask.ensures.number
-    c.in-Err-ask.ensures.unstable c.in-Err-ask.ensures.progress tells)))
+    c.in-Err-ask.ensures.left_scan c.in-Err-ask.ensures.right_scan c.in-Err-ask.ensures.progress
+    tells)))
 
 pub returns-in-Err-ask-clause-halts : goal.returns-in-Err-ask-clause-halts
 returns-in-Err-ask-clause-halts g c pair machine stands up halted =

@@ -44,9 +44,9 @@ returns-clause-step g c =
     (c.in_ok-progress.ensures.items ∙ ap₂ (λ r m. plan r (scan_of left) (scan_of right) m)
     (sym heard.heard_is.preference) marks)
     (c.scan-left.ensures.scan Left (running.taken ++ taken ∷ []) (scanned.whole Left)
-    (scanned.found Left))
+    (heard.found Left))
     (c.scan-right.ensures.scan Right (running.taken ++ taken ∷ []) (scanned.whole Right)
-    (scanned.found Right))
+    (heard.found Right))
     c.walk-asks.new.self c.walk-asks.new.progress c.walk-asks.result walked)
 
 pub returns-in_err-progress-clause-breaks : goal.returns-in_err-progress-clause-breaks

@@ -5,7 +5,7 @@ use Rattle.syn_session.proofs.SessionLemmas.{SentAgain, resent_so}
 use Rattle.syn_session.proofs.session.Session.count_resend.Goals as goal
 
 pub returns : goal.returns
-returns c archive running is = resent_so archive c.args.self.now _ running is refl refl refl refl
+returns c archive running is = resent_so archive c.args.self.now _ running is refl refl refl
     again
   where
     again : (side : Which) → SentAgain (peer_of c.args.self.now side) (peer_of (record {
@@ -14,7 +14,6 @@ returns c archive running is = resent_so archive c.args.self.now _ running is re
       preference = c.args.self.now.preference;
       left = c.count_resend.new.self;
       right = c.count_resend-2.new.self;
-      has_unstable_path = c.args.self.now.has_unstable_path;
       progress = c.args.self.now.progress;
     }) side)
     again Left =

@@ -8,7 +8,7 @@ use Rattle.syn_session.specs.Answering.{asks_of, exchange_of}
 use Rattle.syn_session.specs.Hearing.{at_once}
 use Rattle.syn_session.specs.declared.session.Asks.TheVariants.{Listings}
 use Rattle.syn_session.proofs.HearingLemmas.{begun_heard, begun_lines, begun_out, both_begun}
-use Rattle.syn_session.proofs.HearingLemmas.{found_begun, tells_before}
+use Rattle.syn_session.proofs.HearingLemmas.{tells_before}
 use Rattle.syn_session.proofs.HeardNext.{hears_next, hears_refused}
 use Rattle.syn_session.proofs.HearingLemmas.{waits_on}
 use Rattle.syn_session.proofs.WaitingLemmas.{none_wait, some_wait}
@@ -22,7 +22,7 @@ returns-in_err-check_begun c = record {
       (reply_of c.args.reply) c.from_residual.result _ c.from_residual.ensures.1
       (at_once (inl (c.in_err-check_begun.ensures running.taken side pair))
       (tells_before archive before c.args.self.now running side number (Begin pair)
-      (reply_of c.args.reply) is answers scans c.args.self.now refl refl refl));
+      (reply_of c.args.reply) is answers scans c.args.self.now refl (λ _. refl) refl));
 }
 
 pub returns-then-waits_across : goal.returns-then-waits_across
@@ -56,13 +56,11 @@ returns c = record {
       (Begin pair) reply is answers scans pair said.1 refl said.2 in
       let both = both_begun archive before c.args.self.now running side number
       (Begin pair) reply is answers scans pair said.1 refl said.2 silent in
-      let found = found_begun archive before c.args.self.now running side number
-      (Begin pair) reply is answers scans pair said.1 refl said.2 in
       let lines = begun_lines archive before c.args.self.now running side number
       (Begin pair) reply is answers scans pair said.1 refl said.2 silent in
       let out = begun_out archive before c.args.self.now running side number
       (Begin pair) reply is answers scans pair said.1 refl said.2 silent in
       hears_next c.args.self.now c.scan_on.new.self running side number (Begin pair) reply said.0
-      has both found lines out c.scan_on.ensures.same c.scan_on.result c.scan_on.ensures.next
+      has both lines out c.scan_on.ensures.same c.scan_on.result c.scan_on.ensures.next
       c.map_err.result (search rules);
 }

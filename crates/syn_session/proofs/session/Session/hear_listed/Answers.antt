@@ -1,12 +1,15 @@
-use Rattle.std.proofs.Common.{refl, rules, ap, ◌∙◌}
+use Rattle.std.proofs.Common.{◌≡◌, ap, refl, rules}
 use Rattle.syn_headline.specs.Side.{ListAt}
 use Rattle.syn_message.specs.Replies.{reply_of}
 use Rattle.syn_path.specs.Sides.{which_of}
+use Rattle.syn_headline.proofs.StagedLemmas.{on_both}
 use Rattle.syn_session.specs.Hearing.{at_once}
-use Rattle.std.specs.Prelude.{◌||◌}
+use Rattle.syn_session.specs.Scanning.{found_of}
+use Rattle.syn_session.specs.Stages.{found_on}
+use Rattle.syn_session.specs.declared.peer.PeerState.{PeerState}
 use Rattle.syn_session.proofs.HearingLemmas.{found_before, listed_begun}
 use Rattle.syn_session.proofs.HeardNext.{hears_next, hears_refused}
-use Rattle.syn_session.proofs.HearingLemmas.{listed_found, listed_heard, listed_lines, listed_out}
+use Rattle.syn_session.proofs.HearingLemmas.{listed_heard, listed_lines, listed_out}
 use Rattle.syn_session.proofs.HeardNext.{swapped}
 use Rattle.syn_session.proofs.HearingLemmas.{tells_before, waits_for}
 use Rattle.syn_session.proofs.session.Session.hear_listed.Goals as goal
@@ -27,7 +30,9 @@ returns-in_err-take_listing c = record {
       (at_once (swapped (c.in_err-take_listing.ensures.step running.taken number waits found))
       (tells_before archive before c.args.self.now running side number
       (ListAt path) reply is answers scans c.take_listing.new.self keeps.number_is
-      c.in_err-take_listing.ensures.unstable keeps.progress));
+      (on_both (λ on. found_on c.take_listing.new.self on ≡ found_on c.args.self.now on) side
+      c.in_err-take_listing.ensures.same
+      (ap (λ (l : PeerState). found_of l.scan) keeps.across)) keeps.progress));
 }
 
 pub returns : goal.returns
@@ -37,43 +42,23 @@ returns c = record {
       let path = c.args.path.now in
       let reply = reply_of c.args.reply in
       let now = c.args.self.now in
-      let taken = c.take_listing.new.self in
-      let after = c.note_unstable.new.self in
+      let after = c.take_listing.new.self in
       let waits = waits_for archive before now running side number
       (ListAt path) reply is answers scans path refl in
       let before_found = found_before archive before now running side number
       (ListAt path) reply is answers scans path refl in
       let keeps = c.in_ok-take_listing.ensures.keeps in
       let step = c.in_ok-take_listing.ensures.step running.taken number waits before_found in
-      let counted = c.note_unstable.ensures.unstable
-      ∙ ap (λ b. taken.has_unstable_path || b) c.is_no_directory-is_no_directory.ensures in
       let taken_out = c.in_ok-take_listing.ensures.out in
       let has = listed_heard archive before now running side number (ListAt path) reply is answers
-      scans path refl taken after keeps c.in_ok-take_listing.ensures.unstable counted
-      c.note_unstable.ensures.left c.note_unstable.ensures.right c.note_unstable.ensures.number
-      c.note_unstable.ensures.preference
-      c.note_unstable.ensures.progress step.1 taken_out in
+      scans path refl after keeps step.1 taken_out in
       let both = listed_begun archive before now running side number (ListAt path) reply is answers
-      scans path refl taken after keeps c.in_ok-take_listing.ensures.unstable counted
-      c.note_unstable.ensures.left c.note_unstable.ensures.right c.note_unstable.ensures.number
-      c.note_unstable.ensures.preference
-      c.note_unstable.ensures.progress step.1 taken_out in
-      let found = listed_found archive before now running side number (ListAt path) reply is answers
-      scans path refl taken after keeps c.in_ok-take_listing.ensures.unstable counted
-      c.note_unstable.ensures.left c.note_unstable.ensures.right c.note_unstable.ensures.number
-      c.note_unstable.ensures.preference
-      c.note_unstable.ensures.progress step.1 taken_out in
+      scans path refl after keeps step.1 taken_out in
       let lines = listed_lines archive before now running side number (ListAt path) reply is answers
-      scans path refl taken after keeps c.in_ok-take_listing.ensures.unstable counted
-      c.note_unstable.ensures.left c.note_unstable.ensures.right
-      c.note_unstable.ensures.number c.note_unstable.ensures.preference
-      c.note_unstable.ensures.progress step.1 taken_out in
+      scans path refl after keeps step.1 taken_out in
       let out = listed_out archive before now running side number (ListAt path) reply is answers
-      scans path refl taken after keeps c.in_ok-take_listing.ensures.unstable counted
-      c.note_unstable.ensures.left c.note_unstable.ensures.right
-      c.note_unstable.ensures.number c.note_unstable.ensures.preference
-      c.note_unstable.ensures.progress step.1 taken_out in
+      scans path refl after keeps step.1 taken_out in
       hears_next after c.scan_on.new.self running side number (ListAt path) reply step.0 has both
-      found lines out c.scan_on.ensures.same c.scan_on.result c.scan_on.ensures.next
-      c.map_err.result (search rules);
+      lines out c.scan_on.ensures.same c.scan_on.result c.scan_on.ensures.next c.map_err.result
+      (search rules);
 }

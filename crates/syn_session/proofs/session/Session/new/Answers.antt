@@ -13,7 +13,7 @@ use Rattle.syn_path.specs.Sides.{which_of}
 pub returns-clause-begun : goal.returns-clause-begun
 returns-clause-begun c archive =
     session_begins archive _ (option_map which_of c.args.preference) c.args.number c.args.pair refl
-    refl c.ranges.number.fits refl refl waits
+    refl c.ranges.number.fits refl waits
     of asked found out
   where
     peer : Which → PeerState

@@ -11,7 +11,6 @@ then_ c = record {
   preference = c.args.self.now.preference;
   left = c.next_listings.new.self;
   right = c.next_listings-2.new.self;
-  has_unstable_path = c.args.self.now.has_unstable_path;
   progress = c.args.self.now.progress;
 }
 

@@ -20,7 +20,6 @@ returns-in-Left-clause-step c taken number =
       left =
           record { waiting = self.left.waiting; asked = self.left.asked; scan = c.take.new.self };
       right = self.right;
-      has_unstable_path = self.has_unstable_path;
       progress = self.progress;
     } in
     subst (λ f. WaitsFor (peer_of self (which_of f)).scan path →
@@ -43,7 +42,6 @@ returns-in-Right-clause-step c taken number =
         asked = self.right.asked;
         scan = c.take-in-Right.new.self;
       };
-      has_unstable_path = self.has_unstable_path;
       progress = self.progress;
     } in
     subst (λ f. WaitsFor (peer_of self (which_of f)).scan path →
