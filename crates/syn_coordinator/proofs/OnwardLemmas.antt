@@ -1,17 +1,17 @@
 -- Where a session goes after an answer for the item that is carried.
-use Rattle.std.proofs.Common.{◌≡◌, ℕ, suc, List, [], ◌∷◌, ◌++◌, None, sym, ap, ◌∙◌, subst, arith}
+use Rattle.std.proofs.Common.{◌≡◌, ℕ, suc, false, List, [], ◌∷◌, ◌++◌, None, sym, ap, ◌∙◌, subst}
+use Rattle.std.proofs.Common.{arith}
 use Rattle.std.specs.Option.{option_map_or}
 use Rattle.std.specs.Prelude.{MatchResult, Result, Ok, Err}
 use Rattle.std.proofs.lemmas.Bool.{false≢true}
 use Rattle.std.specs.List.{slice_get}
 use Rattle.syn_disk.specs.declared.disk.Disk.{Ghosts}
-use Rattle.syn_headline.specs.Coordinator.{Exchange, IsFor, fault_of}
+use Rattle.syn_headline.specs.Coordinator.{Exchange, IsFor, fault_of, is_last}
 use Rattle.syn_headline.specs.Planning.{Planned}
 use Rattle.syn_headline.specs.Side as model
 use Rattle.syn_model.specs.Refusal.{Refusal as Why}
 use Rattle.syn_scan.specs.Found.{Found}
 use Rattle.syn_coordinator.specs.Machines.{IsMachine, Journal}
-use Rattle.syn_session.specs.declared.answering.ItemProgress.TheVariants as carrying
 use Rattle.syn_coordinator.specs.declared.recorder.Recorder.{Recorder}
 use Rattle.syn_session.specs.declared.plan_progress.PlanProgress.{PlanProgress}
 use Rattle.syn_session.specs.declared.session.Asks.{Asks}
@@ -19,9 +19,9 @@ use Rattle.syn_session.specs.declared.session.Asks.TheVariants.{One}
 use Rattle.syn_propagate.specs.declared.next.SideRequest.{SideRequest}
 use Rattle.syn_session.specs.Passing.{refused_at}
 use Rattle.syn_coordinator.specs.inner.Carrying.{AsksLater, CarriesOn, EndsCarrying, afterwards}
-use Rattle.syn_session.specs.Carrying.{IsCarriedOut, TakesAnswer}
+use Rattle.syn_session.specs.Carrying.{AsksFor, IsCarriedOut}
 use Rattle.syn_coordinator.specs.inner.Settling.{AsksSo, EndsSo, HasCome, IsPast, IsQuiet}
-use Rattle.syn_session.specs.Stages.{AreAskedBefore, Reached, plan_in}
+use Rattle.syn_session.specs.Stages.{AreAskedBefore, Carries, Reached, plan_in}
 use Rattle.syn_coordinator.specs.declared.session_end.SessionEnd.{SessionEnd}
 use Rattle.syn_coordinator.specs.inner.Walking.{IsAtItem, Passes}
 use Rattle.syn_coordinator.proofs.PassLemmas.{asks_here, at_turn, some_in, turn_asks, turn_ends}
@@ -113,14 +113,16 @@ module _ {D : Type 0} {disk : Ghosts D} (pair : ℕ) (taken : Exchange) (journal
   -- it asks for the same item again
   pub carries_further : (recorder : Recorder D disk) (progress : PlanProgress) →
       IsMachine recorder.archive pair journal → IsQuiet recorder journal → (asked : SideRequest) →
-      TakesAnswer journal.value left right all before taken progress (Ok (carrying.Ask asked)) →
+      fault_of all taken.side taken.request taken.reply ≡ None → is_last taken.reply ≡ false →
+      Carries journal.value progress left right (all ++ taken ∷ []) before
+      (λ transfer. AsksFor transfer (all ++ taken ∷ []) asked) →
       CarriesOn recorder recorder pair taken journal before progress left right all (One asked)
-  carries_further recorder progress is quiet asked took = record {
-    fault = took.0;
+  carries_further recorder progress is quiet asked fault goes carries = record {
+    fault = fault;
     asks_so =
         asks_here pair taken journal before left right recorder is quiet progress
-        (all ++ taken ∷ []) (One asked) took.1.1;
-    last = λ last. absurd (false≢true (sym took.1.0 ∙ last));
+        (all ++ taken ∷ []) (One asked) carries;
+    last = λ last. absurd (false≢true (sym goes ∙ last));
   }
 
   -- it is past the item

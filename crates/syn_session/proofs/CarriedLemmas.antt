@@ -1,9 +1,9 @@
 -- What an answer for the item that is carried comes to.
-use Rattle.std.proofs.Common.{◌≡◌, ◌⊎◌, ℕ, suc, false, List, [], ◌∷◌, ◌++◌, Option, Some, None, sym}
+use Rattle.std.proofs.Common.{◌≡◌, ◌⊎◌, ℕ, suc, List, [], ◌∷◌, ◌++◌, Option, Some, None, sym}
 use Rattle.std.proofs.Common.{ap, ◌∙◌, subst, inl, inr, arith}
-use Rattle.std.specs.Prelude.{Ok, Err, unwrap_or}
+use Rattle.std.specs.Prelude.{unwrap_or}
 use Rattle.std.specs.List.{slice_get}
-use Rattle.syn_headline.specs.Coordinator.{Exchange, IsDue, IsFor, fault_of, is_last}
+use Rattle.syn_headline.specs.Coordinator.{Exchange, IsDue, IsFor, fault_of}
 use Rattle.syn_headline.specs.Coordinator as is_due_by
 use Rattle.syn_headline.specs.Network.{Which, other}
 use Rattle.syn_headline.specs.Planning.{Planned, WritesTo, seen_on}
@@ -23,11 +23,10 @@ use Rattle.syn_propagate.specs.declared.next.SideRequest.{SideRequest}
 use Rattle.syn_refusal.specs.Refusals.{cause_of}
 use Rattle.syn_refusal.specs.declared.refusal.Refusal.{Refusal}
 use Rattle.syn_scan.specs.Found.{Found}
-use Rattle.syn_session.specs.declared.answering.ItemProgress.TheVariants as carrying
 use Rattle.syn_session.specs.declared.plan_progress.Carried.{Carried}
 use Rattle.syn_session.specs.declared.plan_progress.PlanProgress.{PlanProgress}
 use Rattle.syn_session.specs.Answering.{exchange_of}
-use Rattle.syn_session.specs.Carrying.{AsksFor, IsCarriedOut, TakesAnswer}
+use Rattle.syn_session.specs.Carrying.{AsksFor, IsCarriedOut}
 use Rattle.syn_session.specs.Plans.{Plan}
 use Rattle.syn_session.specs.Stages.{AreAskedBefore, Carries, IsAskedBefore, IsCarriageOf}
 use Rattle.syn_session.specs.Stages.{IsCarriedFor, Reached, plan_in}
@@ -100,7 +99,8 @@ module _ (archive : kept_in.Archive) (progress : PlanProgress) (left right : Fou
         (asked_for (plan_in progress left right) progress.cursor carries.planned carries.at
         (spec_of was.transfer) for_it.spec to request for_item)
 
-    carried_out : (now : Option Carried) → IsCarriedOut (record progress { carried = now }) left
+    -- it is carried no further
+    pub carried_out : (now : Option Carried) → IsCarriedOut (record progress { carried = now }) left
         right
         (all ++ taken ∷ []) before carries.planned
     carried_out now = record {
@@ -111,59 +111,30 @@ module _ (archive : kept_in.Archive) (progress : PlanProgress) (left right : Fou
       asked = asked_all;
     }
 
-    pub takes_on : (later : Carried) → spec_of later.transfer ≡ spec_of was.transfer →
-        later.kept ≡ was.kept → (asked : SideRequest) → is_last reply ≡ false →
+    -- it is carried on
+    pub still_carries : (later : Carried) → spec_of later.transfer ≡ spec_of was.transfer →
+        later.kept ≡ was.kept → (asked : SideRequest) →
         AsksFor later.transfer (all ++ taken ∷ []) asked →
-        TakesAnswer archive left right all before taken (record progress { carried = Some later })
-        (Ok (carrying.Ask asked))
-    takes_on later same_carriage same_record asked goes asks_it = (
-      fault,
-      (
-        goes,
+        Carries archive (record progress { carried = Some later }) left right
+        (all ++ taken ∷ []) before (λ transfer. AsksFor transfer (all ++ taken ∷ []) asked)
+    still_carries later same_carriage same_record asked asks_it =
         carries_on archive progress left right before carries.course_is carries.planned carries.at
-            was
-            later same_carriage same_record for_it (all ++ taken ∷ []) asked_all
-            (λ transfer. AsksFor transfer (all ++ taken ∷ []) asked) asks_it,
-      ),
-    )
+        was later same_carriage same_record for_it (all ++ taken ∷ []) asked_all
+        (λ transfer. AsksFor transfer (all ++ taken ∷ []) asked) asks_it
 
-    pub takes_done : (now : Option Carried) →
-        EndsBy (spec_of was.transfer) request reply next.Done → TakesAnswer archive left right
-        all before taken (record progress { carried = now }) (Ok (carrying.Done was.kept))
-    takes_done now ends = (
-      fault,
-      (
-        carries.planned,
-        carried_out now,
+    -- it is done
+    pub is_done : EndsBy (spec_of was.transfer) request reply next.Done →
+        IsDue progress.cursor carries.planned taken (kept_for was.kept)
+    is_done ends =
         is_due (plan_in progress left right) progress.cursor carries.planned carries.at
-            (spec_of was.transfer) for_it.spec to number request reply (kept_for was.kept)
-            (marks_of carries.planned (spec_of was.transfer) progress.cursor
-            (kept_for was.kept) for_it.spec for_it.record_is) for_item ends.0 ends.1 ends.2,
-      ),
-    )
+        (spec_of was.transfer) for_it.spec to number request reply (kept_for was.kept)
+        (marks_of carries.planned (spec_of was.transfer) progress.cursor
+        (kept_for was.kept) for_it.spec for_it.record_is) for_item ends.0 ends.1 ends.2
 
-    pub takes_refused : (now : Option Carried) (why : Refusal) →
-        reply ≡ model.Refused (cause_of why) → TakesAnswer archive left right all before taken
-        (record progress { carried = now }) (Ok (carrying.Refused why))
-    takes_refused now why said = (
-      fault,
-      (
-        carries.planned,
-        carried_out now,
-        said,
+    pub was_for : IsFor progress.cursor carries.planned request
+    was_for =
         is_for (plan_in progress left right) progress.cursor carries.planned carries.at
-            (spec_of was.transfer) for_it.spec to request for_item,
-      ),
-    )
-
-  pub takes_fault : (now : Option Carried) (why : Refusal) →
-      (fault_of all to request reply ≡ Some (cause_of why)) ⊎ (cause_of why ≡ Memory) →
-      TakesAnswer archive left right all before taken (record progress { carried = now }) (Err why)
-  takes_fault now why fault = (
-    fault,
-    carrying_more progress now left right before
-        carries.course_is,
-  )
+        (spec_of was.transfer) for_it.spec to request for_item
 
 -- what ended the transfer ends the session
 pub ended_with : (fault : Option Why) (error : TransferError) (why : Refusal) →

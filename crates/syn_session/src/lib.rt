@@ -28,9 +28,6 @@
 //!   item (`begun`). `doing` is what is to be done for the item at the cursor (`ok`).
 //! - `pass_conflict`, `refuse` and `pass_kept` go past that item (`passes`). Where memory is
 //!   refused the progress stays where it is (`stays`).
-//! - `take_answer` takes the answer for the item that is carried (`step`: `TakesAnswer`). A side is
-//!   asked on, or the item's record is due, or a side refused what it was asked. Or the session
-//!   ends with the answer, or 11.
 //! - `SideScan` is the scan of one side, told over the exchanges of the session (`IsFoundIn`). Each
 //!   listing that it found was answered so, and it has as many nodes as these show. Each listing
 //!   that was asked for was taken.
@@ -42,7 +39,6 @@
 //!     shows the scan so far.
 #![tactic(auto)]
 
-mod answering;
 mod carried;
 mod doing;
 mod hearing;
@@ -55,7 +51,6 @@ mod sending;
 mod session;
 mod side_scan;
 
-pub use answering::ItemProgress;
 pub use doing::Doing;
 pub use hearing::Heard;
 pub use peer::PeerState;

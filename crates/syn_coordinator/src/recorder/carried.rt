@@ -17,9 +17,10 @@ use std::alloc::Global;
 use syn_disk::Disk;
 use syn_image::ItemRecord;
 use syn_message::Reply;
+use syn_propagate::{Next, transfer_laws};
 use syn_refusal::Refusal;
 use syn_scan::Scan;
-use syn_session::{Asks, ItemProgress, PlanProgress};
+use syn_session::{Asks, PlanProgress};
 
 impl<D: Disk> Recorder<D> {
     ghost use Rattle.syn_coordinator.specs.inner.Advancing.{Breaks};
@@ -51,10 +52,28 @@ impl<D: Disk> Recorder<D> {
             right.now all) }
         ensures breaks { Breaks self.old self.new result }
     {
-        match progress.take_answer(alloc, reply)? {
-            ItemProgress::Ask(asked) => Ok(Asks::One(asked)),
-            ItemProgress::Done(kept) => self.walk_after(alloc, progress, left, right, kept),
-            ItemProgress::Refused(why) => self.walk_past(alloc, progress, left, right, why),
+        transfer_laws();
+        let Some(mut carried) = progress.carried.take() else {
+            return Err(SessionEnd::Early(Refusal::BadMessage));
+        };
+        // By calls, or the prover would look here at all that each holds.
+        match carried.transfer.step(alloc, Some(reply)) {
+            Ok(Next::Ask(asked)) => {
+                drop(progress.carried.replace(carried));
+                Ok(Asks::One(asked))
+            }
+            Ok(Next::Done) => {
+                drop(carried.transfer);
+                self.walk_after(alloc, progress, left, right, carried.kept)
+            }
+            Ok(Next::Refused(why)) => {
+                drop(carried);
+                self.walk_past(alloc, progress, left, right, why)
+            }
+            Err(error) => {
+                drop(carried);
+                Err(SessionEnd::Early(error.refusal()))
+            }
         }
     }
 
