@@ -10,7 +10,7 @@ use Rattle.syn_coordinator.specs.declared.coordinator.Coordinator.{Coordinator}
 use Rattle.syn_disk.specs.Arms.{is_stopped}
 use Rattle.syn_disk.specs.declared.disk.Disk.{Ghosts}
 use Rattle.syn_headline.specs.Coordinator.{Call, CoordinatorMachine, Running, coordinator_kind}
-use Rattle.syn_headline.specs.Coordinator.{outstanding, start_causes}
+use Rattle.syn_headline.specs.Coordinator.{outstanding, report_of, start_causes}
 use Rattle.syn_headline.specs.Machine.{Arms, Down, Halted, Status, Up, after_device}
 use Rattle.syn_headline.specs.MachineSteps.{Reopens, causes_at, full_generation}
 use Rattle.syn_headline.specs.Network.{Message, Which}
@@ -23,6 +23,7 @@ use Rattle.syn_model.specs.Refusal.{Cause, Refusal}
 use Rattle.syn_model.specs.Refusal as why
 use Rattle.syn_session.specs.Reports.{report_model}
 use Rattle.syn_session.specs.Sessions.{IsRunning}
+use Rattle.syn_session.specs.SettledItems.{Settled, nothing_settled, settled_in}
 
 module _ {D : Type 0} {disk : Ghosts D} (coordinator : Coordinator D disk) where
   abbrev pub archive_of : Archive D disk
@@ -69,6 +70,13 @@ is_waiting running side =
 abbrev pub items_planned : Option Running → Option ℕ
 items_planned None = None
 items_planned (Some running) = option_map length running.plan
+
+-- what a session that runs would report of its items if it ended now, or else what the last report
+-- has of them
+abbrev pub settled_so_far : Option Running → Option Report → Settled
+settled_so_far (Some running) last = settled_in (report_of running None)
+settled_so_far None (Some report) = settled_in report
+settled_so_far None None = nothing_settled
 
 -- the report of a session that ended in a call
 abbrev pub in_report : Option Report → List Report

@@ -33,6 +33,7 @@ use syn_session::{Report, Sending, Session};
 mod answers;
 mod journal;
 mod opening;
+mod settled;
 
 /// What runs sessions between the two replicas of a pair, one at a time, over the archive of what
 /// both last agreed on.

@@ -34,6 +34,8 @@
 //! - No record is cut off under a session that runs (`quiet`, `untried`), so another opening leaves
 //!   its archive's marks as they were.
 //! - `planned` answers how many items the plan of the running session has; none before it is made.
+//!   `settled` answers what became of its items so far, as it would report them if it ended now, or
+//!   else what the last report has of them (`settled_so_far`).
 //!   `waits_on` says whether a request of that session waits on a side.
 //!
 //! # What is due is kept

@@ -1,4 +1,5 @@
 pub mod Reports
+pub mod SettledItems
 pub mod Sendings
 pub mod Scanning
 pub mod Plans

@@ -23,7 +23,8 @@
 //! - What is asked next is `Asks`: listings of both sides, or one request for the item that is
 //!   carried. Each may be asked, for the first time, and may wait beside what waits (`MayGoOn`).
 //! - `ask` asks the sides for what comes next (`left`, `right`), and gives just these messages
-//!   (`sends`). `into_report` is what the session reports (`report_of`).
+//!   (`sends`). `into_report` is what the session reports (`report_of`), and `settled` is what it
+//!   would report of its items if it ended now (`settled_in`).
 //! - `PlanProgress::new` is the plan of both scans and the archive's marks (`items`), at its first
 //!   item (`begun`). `doing` is what is to be done for the item at the cursor (`ok`).
 //! - `pass_conflict`, `refuse` and `pass_kept` go past that item (`passes`). Where memory is
@@ -49,6 +50,7 @@ mod report;
 mod requests;
 mod sending;
 mod session;
+mod settled_items;
 mod side_scan;
 
 pub use doing::Doing;
@@ -59,4 +61,5 @@ pub use report::{End, Report};
 pub use requests::{MOST_RESENDS, UnansweredRequest};
 pub use sending::Sending;
 pub use session::{Asks, Session};
+pub use settled_items::SettledItems;
 pub use side_scan::SideScan;
