@@ -7,44 +7,40 @@ use crate::teller::CLEARED;
 use std::alloc::{AllocError, Global};
 use std::io::{self, Write};
 use syn_image::Kept;
-use syn_message::{Reply, ReplyMessage, Request};
+use syn_message::{Reply, ReplyMessage};
 use syn_path::{Path, Side};
 use syn_refusal::Refusal;
-use syn_session::{Report, Sending};
+use syn_session::{Report, SettledItems};
 use syn_sync::{SessionWatch, tell_unreached};
 
-/// The request about an item that waits for its answer.
-#[derive(Clone, Copy, Debug, PartialEq, Eq)]
-struct Waiting {
-    to: Side,
-    session: u64,
-    number: u32,
-    replaces: bool,
+/// What was told of a session so far.
+#[derive(Clone, Copy, Debug, Default)]
+struct Told {
+    /// How many items were carried.
+    done: u32,
+    /// How many items were refused.
+    refused: usize,
+    /// How many items were settled, those among them.
+    settled: u64,
+    /// How many items the plan has.
+    planned: usize,
+    /// How many bytes were fetched.
+    fetched: u64,
 }
 
 /// Writes a line as each item of a session is settled: `carried PATH`, `marked PATH`, or
 /// `refused NUMBER PATH`.
 ///
 /// `carried` is an item whose replacement a side made, once the archive has it. `marked` is one on
-/// which both sides agreed already. Conflicts, and what the archive refused, are told once the
-/// session has `ended`. A write that fails is left out, and so is what finds no memory.
+/// which both sides agreed already. Conflicts are told once the session has `ended`. A write that
+/// fails is left out, and so is what finds no memory.
 #[derive(Drop)]
 pub struct SessionProgress<W> {
     alloc: Global,
     writer: W,
     /// Whether a line with counts stands below the others.
     counts: bool,
-    /// The item that is carried; none also where there was no memory for its path.
-    path: Option<Path>,
-    waiting: Option<Waiting>,
-    /// Whether the side said that the item's replacement is made.
-    replaced: bool,
-    /// The refused items that were told.
-    told: Vec<Path>,
-    /// How many items the plan has, as far as that was told.
-    planned: usize,
-    settled: u64,
-    fetched: u64,
+    told: Told,
 }
 
 impl<W: Write> SessionProgress<W> {
@@ -56,13 +52,7 @@ impl<W: Write> SessionProgress<W> {
             alloc,
             writer,
             counts: false,
-            path: None,
-            waiting: None,
-            replaced: false,
-            told: Vec::new(alloc),
-            planned: 0,
-            settled: 0,
-            fetched: 0,
+            told: Told::default(),
         }
     }
 
@@ -83,73 +73,38 @@ impl<W: Write> SessionProgress<W> {
         self.writer
     }
 
-    /// Tells the refused items that were not told. Those that were stand in their order among them.
+    /// Tells the items among these that were refused since the last call.
     fn tell_refused(&mut self, refused: &[(Refusal, Path)]) {
-        let mut next = 0;
-        for (why, path) in refused {
-            if next < self.told.len() && self.told[next] == *path {
-                next += 1;
-                continue;
-            }
-            self.write_line(refused_line(self.alloc, *why, path));
+        for (why, path) in refused.iter().skip(self.told.refused) {
+            self.settle(refused_line(self.alloc, *why, path));
         }
+        self.told.refused = refused.len();
     }
 
-    /// An item begins.
-    fn begin(&mut self, path: Option<Path>) {
-        self.path = path;
-        self.waiting = None;
-        self.replaced = false;
-    }
-
-    /// The item waits for the answer to this request.
-    fn wait(&mut self, sending: &Sending, replaces: bool) {
-        self.waiting = Some(Waiting {
-            to: sending.to,
-            session: sending.asked.session,
-            number: sending.asked.number,
-            replaces,
-        });
-    }
-
-    /// Whether this answers what the item waits for, and whether that was the replacement.
-    fn take_waiting(&mut self, from: Side, answered: &ReplyMessage) -> Option<bool> {
-        let waiting = self.waiting?;
-        let answers = waiting.to == from
-            && waiting.session == answered.session
-            && waiting.number == answered.number;
-        if !answers {
-            return None;
+    /// Tells what was recorded since the last call. Where one item more is done, it is the first.
+    fn tell_recorded(&mut self, done: u32, kept: &[Kept]) {
+        let mut is_carried = done > self.told.done;
+        for one in kept {
+            let path = match one {
+                Kept::Record(path, _) => path,
+                Kept::Dir(path) => path,
+                Kept::Session(_) => continue,
+            };
+            let line = if is_carried {
+                carried_line(self.alloc, path)
+            } else {
+                marked_line(self.alloc, path)
+            };
+            is_carried = false;
+            self.settle(line);
         }
-        self.waiting = None;
-        Some(waiting.replaces)
+        self.told.done = done;
     }
 
-    /// The item was refused. Where there is no memory for it now, it is told by `ended`.
-    fn refuse(&mut self, why: Refusal) {
-        self.settle();
-        let Some(path) = self.path.take() else {
-            return;
-        };
-        let line = refused_line(self.alloc, why, &path);
-        if self.told.push(path).is_ok() {
-            self.write_line(line);
-        }
-    }
-
-    /// The archive has a record of the path.
-    fn record(&mut self, path: &Path) {
-        self.settle();
-        let line = match &self.path {
-            Some(carried) if self.replaced && carried == path => carried_line(self.alloc, path),
-            None if self.replaced => return,
-            _ => marked_line(self.alloc, path),
-        };
+    /// One more item is settled, which has this line.
+    fn settle(&mut self, line: Result<String, AllocError>) {
+        self.told.settled = self.told.settled.saturating_add(1);
         self.write_line(line);
-    }
-
-    fn settle(&mut self) {
-        self.settled = self.settled.saturating_add(1);
     }
 
     /// Writes the line, in the place of the counts, which follow it.
@@ -169,7 +124,8 @@ impl<W: Write> SessionProgress<W> {
         if !self.counts {
             return;
         }
-        if let Ok(line) = count_line(self.alloc, self.settled, self.planned, self.fetched) {
+        let told = self.told;
+        if let Ok(line) = count_line(self.alloc, told.settled, told.planned, told.fetched) {
             self.write("\r");
             self.write(&line);
         }
@@ -186,65 +142,34 @@ impl<W: Write> SessionWatch for SessionProgress<W> {
         tell_unreached(&mut self.writer, side, why);
     }
 
-    fn sent(&mut self, sending: &Sending) {
-        match &sending.asked.request {
-            Request::Fetch { path, offset, .. } => {
-                if *offset == 0 {
-                    self.begin(path.copy(self.alloc).ok());
-                }
-                self.wait(sending, false);
-            }
-            Request::Stage { .. } => self.wait(sending, false),
-            Request::Replace { .. } => self.wait(sending, true),
-            _ => {}
-        }
-    }
-
-    fn heard(&mut self, from: Side, answered: &ReplyMessage) {
-        let Some(replaces) = self.take_waiting(from, answered) else {
-            return;
-        };
-        match &answered.reply {
-            Reply::Piece { bytes, .. } => {
-                self.fetched = self.fetched.saturating_add(bytes.len() as u64);
-                self.write_counts();
-            }
-            Reply::Done => self.replaced = replaces,
-            Reply::Refused(why) => self.refuse(*why),
-            _ => {}
+    /// Counts the bytes of a piece. A `Driver` asks for each piece once.
+    fn heard(&mut self, _from: Side, answered: &ReplyMessage) {
+        if let Reply::Piece { bytes, .. } = &answered.reply {
+            self.told.fetched = self.told.fetched.saturating_add(bytes.len() as u64);
+            self.write_counts();
         }
     }
 
     fn planned(&mut self, items: usize) {
-        self.planned = items;
+        self.told.planned = items;
     }
 
-    fn kept(&mut self, kept: &[Kept]) {
-        for one in kept {
-            match one {
-                Kept::Record(path, _) => self.record(path),
-                Kept::Dir(path) => self.record(path),
-                Kept::Session(_) => {}
-            }
-        }
-        self.replaced = false;
+    /// Tells what was refused before what was recorded: a side refuses an item before those are
+    /// marked that come after it.
+    fn settled(&mut self, settled: &SettledItems<'_>, kept: &[Kept]) {
+        self.tell_refused(settled.refused);
+        self.tell_recorded(settled.done, kept);
     }
 
-    /// Tells the conflicts, and each refused item that was not told. Then all is as new, for
-    /// another session.
+    /// Tells the conflicts. Then all is as new, for another session.
     fn ended(&mut self, report: &Report) {
         for path in &report.conflicts {
             self.write_line(conflict_line(self.alloc, path));
         }
-        self.tell_refused(&report.refused);
         self.write_counts();
         if self.counts {
             self.write("\n");
         }
-        self.begin(None);
-        self.told.clear();
-        self.planned = 0;
-        self.settled = 0;
-        self.fetched = 0;
+        self.told = Told::default();
     }
 }

@@ -18,7 +18,7 @@ use syn_message::{Reply, ReplyMessage};
 use syn_path::{Path, Side};
 use syn_print::show_report;
 use syn_refusal::Refusal;
-use syn_session::{End, Report, Sending};
+use syn_session::{End, Report, SettledItems};
 use syn_sync::{SessionWatch, tell_unreached};
 use syn_user::SideConnection;
 
@@ -63,33 +63,31 @@ impl<E: Write> SessionWatch for UnreachedOnly<'_, E> {
         tell_unreached(self.0, side, why);
     }
 
-    fn sent(&mut self, _sending: &Sending) {}
-
     fn heard(&mut self, _from: Side, _answered: &ReplyMessage) {}
 
     fn planned(&mut self, _items: usize) {}
 
-    fn kept(&mut self, _kept: &[Kept]) {}
+    fn settled(&mut self, _settled: &SettledItems<'_>, _kept: &[Kept]) {}
 
     fn ended(&mut self, _report: &Report) {}
 }
 
-/// Counts the events that a session adds to each side: its begin and its replacements.
+/// Counts the events that a session adds to each side: its begin and its replacements. Notes, too,
+/// whether it could not run for want of a side.
 #[derive(Drop)]
 struct PositionCounter<'w, V> {
     watch: &'w mut V,
     /// The position of each side after what the session has added to it so far.
     left: u64,
     right: u64,
+    /// Whether a side could not be reached.
+    is_unreached: bool,
 }
 
 impl<V: SessionWatch> SessionWatch for PositionCounter<'_, V> {
     fn unreached(&mut self, side: Side, why: &io::Error) {
+        self.is_unreached = true;
         self.watch.unreached(side, why);
-    }
-
-    fn sent(&mut self, sending: &Sending) {
-        self.watch.sent(sending);
     }
 
     fn heard(&mut self, from: Side, answered: &ReplyMessage) {
@@ -109,8 +107,8 @@ impl<V: SessionWatch> SessionWatch for PositionCounter<'_, V> {
         self.watch.planned(items);
     }
 
-    fn kept(&mut self, kept: &[Kept]) {
-        self.watch.kept(kept);
+    fn settled(&mut self, settled: &SettledItems<'_>, kept: &[Kept]) {
+        self.watch.settled(settled, kept);
     }
 
     fn ended(&mut self, report: &Report) {
@@ -290,6 +288,7 @@ where
             watch: &mut *self.watch,
             left: 0,
             right: 0,
+            is_unreached: false,
         };
         let went = sync(
             self.rt,
@@ -301,14 +300,12 @@ where
             &mut counter,
         );
         let after = (counter.left, counter.right);
-        match went {
-            Err(Refusal::Device) if !coordinator.archive().is_halted() => {
-                self.since.positions = None;
-                self.since.is_told = true;
-                return Ok(());
-            }
-            went => went?,
+        if counter.is_unreached {
+            self.since.positions = None;
+            self.since.is_told = true;
+            return Ok(());
         }
+        went?;
         let report = reported(coordinator)?;
         self.watch.ended(report);
         self.print_news(report)?;

@@ -99,7 +99,6 @@ impl<R: Read, W: Write> Driver<R, W> {
             return Err(Refusal::Device);
         }
         self.send_all(alloc, &sends);
-        tell_sent(watch, &sends);
         self.go_on(alloc, coordinator, readiness, watch);
         end_if_running(alloc, coordinator)
     }
@@ -135,9 +134,8 @@ impl<R: Read, W: Write> Driver<R, W> {
             if coordinator.is_cut() {
                 return;
             }
-            tell_kept(watch, coordinator);
+            tell_settled(watch, coordinator);
             self.send_all(alloc, &sends);
-            tell_sent(watch, &sends);
         }
     }
 
@@ -223,20 +221,14 @@ impl<R: Read, W: Write> Driver<R, W> {
     }
 }
 
-/// Tells the watch how many items the plan has, and what the coordinator wrote into its archive.
-fn tell_kept<D: Disk, V: SessionWatch>(watch: &mut V, coordinator: &Coordinator<D>) {
+/// Tells the watch how many items the plan has, what became of them so far, and what the
+/// coordinator wrote into its archive for them now.
+fn tell_settled<D: Disk, V: SessionWatch>(watch: &mut V, coordinator: &Coordinator<D>) {
     if let Some(items) = coordinator.planned() {
         watch.planned(items);
     }
     let (written, _) = coordinator.kept();
-    watch.kept(written);
-}
-
-/// Tells the watch each of the requests, in their order.
-fn tell_sent<V: SessionWatch>(watch: &mut V, sends: &[Sending]) {
-    for sending in sends {
-        watch.sent(sending);
-    }
+    watch.settled(&coordinator.settled(), written);
 }
 
 /// The coordinator takes the reply of the side, and answers what is to be sent.

@@ -4,16 +4,13 @@ use std::io::{self, Write};
 use syn_image::Kept;
 use syn_message::ReplyMessage;
 use syn_path::Side;
-use syn_session::{Report, Sending};
+use syn_session::{Report, SettledItems};
 
 /// Is told what happens in a session, as it happens. It sees the session, and changes nothing of
 /// it. No clause says what it is told.
 pub trait SessionWatch {
     /// The side cannot be reached, for this reason of the system. No session runs then.
     fn unreached(&mut self, side: Side, why: &io::Error);
-
-    /// The request was sent. Where its link was closed, nothing was written.
-    fn sent(&mut self, sending: &Sending);
 
     /// The side replied. The coordinator takes the reply after this call.
     fn heard(&mut self, from: Side, answered: &ReplyMessage);
@@ -22,8 +19,12 @@ pub trait SessionWatch {
     /// took and that did not end the session, once there is a plan.
     fn planned(&mut self, items: usize);
 
-    /// The coordinator took the reply, and this is what it wrote into its archive then, in order.
-    fn kept(&mut self, kept: &[Kept]);
+    /// The coordinator took the reply. This is what became of the items so far, and what it has
+    /// just written into its archive for them, in the order of the plan.
+    ///
+    /// At most one of them was carried since the reply before, and then the first record is of that
+    /// one: to carry another, a side has to be asked and to answer.
+    fn settled(&mut self, settled: &SettledItems<'_>, kept: &[Kept]);
 
     /// The session ended with this report. A `Driver` leaves this call to whoever has it run the
     /// session.
@@ -46,13 +47,11 @@ pub struct Unwatched;
 impl SessionWatch for Unwatched {
     fn unreached(&mut self, _side: Side, _why: &io::Error) {}
 
-    fn sent(&mut self, _sending: &Sending) {}
-
     fn heard(&mut self, _from: Side, _answered: &ReplyMessage) {}
 
     fn planned(&mut self, _items: usize) {}
 
-    fn kept(&mut self, _kept: &[Kept]) {}
+    fn settled(&mut self, _settled: &SettledItems<'_>, _kept: &[Kept]) {}
 
     fn ended(&mut self, _report: &Report) {}
 }
