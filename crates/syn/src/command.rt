@@ -168,10 +168,10 @@ where
         Command::Session(pairing) => { run_session(rt, alloc, disks, *pairing, output, teller)? }
         Command::Keep(command) => keep_servers(rt, alloc, disks, command, output, teller)?,
         Command::Plan(pairing) => print_plan(rt, alloc, disks, *pairing, output)?,
-        Command::Edit(command) => done_at(edit(rt, alloc, command, disks, input)?, output)?,
+        Command::Edit(command) => print_done(edit(rt, alloc, disks, command, input)?, output)?,
         Command::Import(command) => import_into(context, command, output, teller)?,
         Command::Reconcile(command) => reconcile_with(context, command, output, teller)?,
-        Command::Export(command) => done_at(
+        Command::Export(command) => print_done(
             export(rt, alloc, disks, context.files, command)?,
             output,
         )?,
@@ -205,7 +205,7 @@ where
 {
     let (rt, alloc, disks) = (context.rt, context.alloc, context.disks);
     let position = import(rt, alloc, disks, context.files, command, teller)?;
-    done_at(position, output)
+    print_done(position, output)
 }
 
 /// Makes a folder and a replica the same, or prints what that would do.
@@ -231,7 +231,7 @@ where
 }
 
 /// Prints `ok` and the position of the replica's last event.
-fn done_at<O: Write>(position: u64, output: &mut O) -> Result<Outcome, Failure> {
+fn print_done<O: Write>(position: u64, output: &mut O) -> Result<Outcome, Failure> {
     writeln!(output, "ok {position}")?;
     Ok(Outcome::Done)
 }

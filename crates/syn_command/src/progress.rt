@@ -73,32 +73,17 @@ impl<W: Write> SessionProgress<W> {
         self.writer
     }
 
-    /// Tells the items among these that were refused since the last call.
-    fn tell_refused(&mut self, refused: &[(Refusal, Path)]) {
+    /// Tells the refused items that were not told, as far as they come before the path in the plan,
+    /// or all with no path.
+    fn tell_refused(&mut self, refused: &[(Refusal, Path)], before: Option<&Path>) {
         for (why, path) in refused.iter().skip(self.told.refused) {
+            match before {
+                Some(recorded) if *path > *recorded => return,
+                _ => {}
+            }
+            self.told.refused = self.told.refused.saturating_add(1);
             self.settle(refused_line(self.alloc, *why, path));
         }
-        self.told.refused = refused.len();
-    }
-
-    /// Tells what was recorded since the last call. Where one item more is done, it is the first.
-    fn tell_recorded(&mut self, done: u32, kept: &[Kept]) {
-        let mut is_carried = done > self.told.done;
-        for one in kept {
-            let path = match one {
-                Kept::Record(path, _) => path,
-                Kept::Dir(path) => path,
-                Kept::Session(_) => continue,
-            };
-            let line = if is_carried {
-                carried_line(self.alloc, path)
-            } else {
-                marked_line(self.alloc, path)
-            };
-            is_carried = false;
-            self.settle(line);
-        }
-        self.told.done = done;
     }
 
     /// One more item is settled, which has this line.
@@ -154,17 +139,35 @@ impl<W: Write> SessionWatch for SessionProgress<W> {
         self.told.planned = items;
     }
 
-    /// Tells what was refused before what was recorded: a side refuses an item before those are
-    /// marked that come after it.
+    /// Tells what was refused and what was recorded since the last call, in the order of the plan.
+    /// Where one item more is done, it is the first that was recorded.
     fn settled(&mut self, settled: &SettledItems<'_>, kept: &[Kept]) {
-        self.tell_refused(settled.refused);
-        self.tell_recorded(settled.done, kept);
+        // A plan that ended in the reply that made it was not told.
+        self.told.planned = self.told.planned.max(count_of(settled));
+        let mut is_carried = settled.done > self.told.done;
+        self.told.done = settled.done;
+        for one in kept {
+            let path = match one {
+                Kept::Record(path, _) => path,
+                Kept::Dir(path) => path,
+                Kept::Session(_) => continue,
+            };
+            self.tell_refused(settled.refused, Some(path));
+            let line = if is_carried {
+                carried_line(self.alloc, path)
+            } else {
+                marked_line(self.alloc, path)
+            };
+            is_carried = false;
+            self.settle(line);
+        }
+        self.tell_refused(settled.refused, None);
     }
 
     /// Tells the conflicts. Then all is as new, for another session.
     fn ended(&mut self, report: &Report) {
         for path in &report.conflicts {
-            self.write_line(conflict_line(self.alloc, path));
+            self.settle(conflict_line(self.alloc, path));
         }
         self.write_counts();
         if self.counts {
@@ -172,4 +175,14 @@ impl<W: Write> SessionWatch for SessionProgress<W> {
         }
         self.told = Told::default();
     }
+}
+
+/// How many items these are.
+fn count_of(settled: &SettledItems<'_>) -> usize {
+    let recorded = (settled.done as usize).saturating_add(settled.marked as usize);
+    let others = settled
+        .conflicts
+        .len()
+        .saturating_add(settled.refused.len());
+    recorded.saturating_add(others)
 }

@@ -89,8 +89,8 @@ pub fn print_log<N: NamedDisks, O: Write>(
 pub fn edit<H: Net<Stream = TcpStream>, N: NamedDisks, I: Read>(
     rt: &H,
     alloc: Global,
-    command: &EditCommand<'_>,
     disks: &N,
+    command: &EditCommand<'_>,
     input: &mut I,
 ) -> Result<u64, CommandError>
     ensures { ((path : ModelPath) → ¬ NamesPath command.entry.now.path.now path)
