@@ -184,13 +184,13 @@ struct SinceLastSession {
 }
 
 /// Runs a session whenever a side has changed.
-fn keep<H, D, V, O>(
-    rt: &H,
+fn keep<'a, H, D, V, O>(
+    rt: &'a H,
     alloc: Global,
     mut coordinator: Coordinator<D>,
-    command: &KeepCommand<'_>,
-    watch: &mut V,
-    output: &mut O,
+    command: &'a KeepCommand<'_>,
+    watch: &'a mut V,
+    output: &'a mut O,
 ) -> Result<Outcome, CommandError>
 where
     H: Net<Listener = TcpListener, Stream = TcpStream> + Clock,
@@ -225,16 +225,16 @@ where
 /// What keeps two servers the same: what it runs with, who watches its sessions and where their
 /// reports go, and what it knows since the last one.
 #[derive(Drop)]
-struct Keeper<'a, H, V, O> {
+struct Keeper<'a, 'c, H, V, O> {
     rt: &'a H,
     alloc: Global,
-    command: &'a KeepCommand<'a>,
+    command: &'a KeepCommand<'c>,
     watch: &'a mut V,
     output: &'a mut O,
     since: SinceLastSession,
 }
 
-impl<H, V, O> Keeper<'_, H, V, O>
+impl<H, V, O> Keeper<'_, '_, H, V, O>
 where
     H: Net<Listener = TcpListener, Stream = TcpStream> + Clock,
     V: SessionWatch,

@@ -65,13 +65,13 @@ pub(crate) fn progress_for<'e, E: Write>(
 }
 
 /// Runs a session of the replicas and their archive that is watched, and prints its report.
-fn run_watched<H, N, V, O>(
-    rt: &H,
+fn run_watched<'a, H, N, V, O>(
+    rt: &'a H,
     alloc: Global,
     disks: &N,
     pairing: Pairing<'_>,
-    watch: &mut V,
-    output: &mut O,
+    watch: &'a mut V,
+    output: &'a mut O,
 ) -> Result<Outcome, CommandError>
 where
     H: Net<Listener = TcpListener, Stream = TcpStream> + Threads + Wait + Clock + Copy + Sync,
