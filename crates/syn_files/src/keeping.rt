@@ -184,13 +184,13 @@ struct SinceLastSession {
 }
 
 /// Runs a session whenever a side has changed.
-fn keep<'a, H, D, V, O>(
-    rt: &'a H,
+fn keep<H, D, V, O>(
+    rt: &H,
     alloc: Global,
     mut coordinator: Coordinator<D>,
-    command: &'a KeepCommand<'_>,
-    watch: &'a mut V,
-    output: &'a mut O,
+    command: &KeepCommand<'_>,
+    watch: &mut V,
+    output: &mut O,
 ) -> Result<Outcome, CommandError>
 where
     H: Net<Listener = TcpListener, Stream = TcpStream> + Clock,
@@ -206,15 +206,13 @@ where
         rt,
         alloc,
         command,
-        watch,
-        output,
         since: SinceLastSession {
             positions: None,
             unfinished: Some(Unfinished::nothing(alloc)),
             is_told: false,
         },
     };
-    let ended = keeper.keep(&mut coordinator, &mut sides);
+    let ended = keeper.keep(&mut coordinator, &mut sides, watch, output);
     drop(keeper);
     drop(sides);
     drop(coordinator);
@@ -222,34 +220,31 @@ where
     Ok(Outcome::Done)
 }
 
-/// What keeps two servers the same: what it runs with, who watches its sessions and where their
-/// reports go, and what it knows since the last one.
+/// What keeps two servers the same: what it runs with, and what it knows since the last session.
 #[derive(Drop)]
-struct Keeper<'a, 'c, H, V, O> {
-    rt: &'a H,
+struct Keeper<'h, 'a, 'c, H> {
+    rt: &'h H,
     alloc: Global,
     command: &'a KeepCommand<'c>,
-    watch: &'a mut V,
-    output: &'a mut O,
     since: SinceLastSession,
 }
 
-impl<H, V, O> Keeper<'_, '_, H, V, O>
+impl<H> Keeper<'_, '_, '_, H>
 where
     H: Net<Listener = TcpListener, Stream = TcpStream> + Clock,
-    V: SessionWatch,
-    O: Write,
 {
     /// Looks at both sides every so many seconds, and runs a session where one has changed.
-    fn keep<D: Disk>(
+    fn keep<D: Disk, V: SessionWatch, O: Write>(
         &mut self,
         coordinator: &mut Coordinator<D>,
         sides: &mut Sides<'_>,
+        watch: &mut V,
+        output: &mut O,
     ) -> Result<(), CommandError> {
         for _round in 0..u64::MAX {
-            if let Some(found) = self.positions(sides) {
+            if let Some(found) = self.positions(sides, watch) {
                 if self.since.positions != Some(found) {
-                    self.run_session(coordinator)?;
+                    self.run_session(coordinator, watch, output)?;
                 }
             }
             thread::sleep(self.rt, Duration::from_secs(self.command.seconds.max(1)));
@@ -259,7 +254,11 @@ where
 
     /// The positions of both sides. A side that cannot be reached is told, unless that was told
     /// since both were reached last.
-    fn positions(&mut self, sides: &mut Sides<'_>) -> Option<(u64, u64)> {
+    fn positions<V: SessionWatch>(
+        &mut self,
+        sides: &mut Sides<'_>,
+        watch: &mut V,
+    ) -> Option<(u64, u64)> {
         let (side, error) = match sides.left.position(self.rt, self.alloc) {
             Ok(left) => match sides.right.position(self.rt, self.alloc) {
                 Ok(right) => {
@@ -271,7 +270,7 @@ where
             Err(error) => (Side::Left, error),
         };
         if !self.since.is_told {
-            self.watch.unreached(side, &error);
+            watch.unreached(side, &error);
             self.since.is_told = true;
         }
         None
@@ -280,12 +279,14 @@ where
     /// Runs one session, prints its report where that says something new, and keeps what is then
     /// known. Where a side cannot be reached, `sync` has told it, and the next look tries again; a
     /// connection that is lost in the session ends it 25.
-    fn run_session<D: Disk>(
+    fn run_session<D: Disk, V: SessionWatch, O: Write>(
         &mut self,
         coordinator: &mut Coordinator<D>,
+        watch: &mut V,
+        output: &mut O,
     ) -> Result<(), CommandError> {
         let mut counter = PositionCounter {
-            watch: &mut *self.watch,
+            watch: &mut *watch,
             left: 0,
             right: 0,
             is_unreached: false,
@@ -307,8 +308,8 @@ where
         }
         went?;
         let report = reported(coordinator)?;
-        self.watch.ended(report);
-        self.print_news(report)?;
+        watch.ended(report);
+        self.print_news(report, output)?;
         self.since = SinceLastSession {
             positions: (report.end == End::Complete).then_some(after),
             unfinished: Unfinished::left_by(self.alloc, report).ok(),
@@ -320,14 +321,14 @@ where
 
     /// Prints the report of a session that did something, or left other things undone than the one
     /// before. Where it is not known what that one left, the report is printed, too.
-    fn print_news(&mut self, report: &Report) -> Result<(), CommandError> {
+    fn print_news<O: Write>(&self, report: &Report, output: &mut O) -> Result<(), CommandError> {
         let leaves_same = match &self.since.unfinished {
             Some(unfinished) => unfinished.is_left_by(report),
             None => false,
         };
         if report.done > 0 || report.marked > 0 || !leaves_same {
-            show_report(self.alloc, report, self.output)?;
-            self.output.flush()?;
+            show_report(self.alloc, report, output)?;
+            output.flush()?;
         }
         Ok(())
     }
