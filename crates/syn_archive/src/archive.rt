@@ -315,7 +315,7 @@ impl<D: Disk> Archive<D> {
         }
     }
 
-    /// Keeps it, where it is news.
+    /// Keeps a record that says what the archive does not have yet.
     fn keep(&mut self, alloc: Global, what: NewRecord<'_>) -> Result<(), ArchiveError>
         requires { IsNews (shown self.old) what }
         ensures acknowledged { (kept : KeptArchive) → Stands self.old kept

@@ -124,7 +124,7 @@ pub enum Between<'a> {
     Servers { left: &'a str, right: &'a str },
 }
 
-/// Two replicas and their archive, and the side that goes to the other where both changed.
+/// Two replicas and their archive, and the side whose change wins where both changed.
 #[derive(Clone, Copy, Debug, PartialEq, Eq)]
 pub struct Pairing<'a> {
     pub between: Between<'a>,

@@ -81,7 +81,7 @@ fn told(error: clap::Error) -> WordsError
     }
 }
 
-/// The command of a name and its matches, and whether a refusal is to be explained.
+/// The command of a name and its matches, with whether `-v` was given.
 fn asked_of<'a>(
     name: &'a str,
     matches: &ArgMatches<'a>,

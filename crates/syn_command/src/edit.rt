@@ -1,4 +1,4 @@
-//! Makes an edit that a line asks for.
+//! Makes the edit that a command asks for.
 ghost use Rattle.std.specs.Prelude.{◌≡◌, ◌⊎◌, ◌+◌, ◌++◌, ◌∷◌, [], length, take, IfOk, IfErr};
 ghost use Rattle.std.specs.Prelude.{IfSome, IsErrAnd, OnErr, Some};
 ghost use Rattle.syn_disk.specs.Stops.{LeavesOnly};
@@ -25,50 +25,50 @@ use syn_tree::{Edit, LONGEST_FILE};
 /// How many bytes of the input are read at most: one more than a file may have.
 const MOST_INPUT: u64 = LONGEST_FILE as u64 + 1;
 
-/// Makes the edit that the line asks for, as its user, and answers the new position. A put puts
+/// Makes the edit that the command asks for, as its user, and answers the new position. A put puts
 /// what is left of the input.
 ///
 /// It is refused as the replica refuses the edit, 9 where the input cannot be read or a device call
 /// fails, and 11 where memory is refused. Of an input that is longer than a file may be only one
 /// byte more than that is read.
 ///
-/// The path has to be the one that the line names, so that no caller can hand over another.
+/// The path has to be the one that the command names, so that no caller can hand over another.
 pub fn make_edit<D: Disk, I: Read>(
     alloc: Global,
     replica: &mut Replica<D>,
-    line: &EditCommand<'_>,
+    command: &EditCommand<'_>,
     path: Path,
     input: &mut I,
 ) -> Result<u64, CommandError>
-    requires { NamesPath line.now.path.now path }
+    requires { NamesPath command.now.path.now path }
     ensures acknowledged { (history : History) (left : Bytes)
-        → Stands replica.old history → IsInput line.entry.now.kind (I.remaining input.old) left
+        → Stands replica.old history → IsInput command.entry.now.kind (I.remaining input.old) left
         → IfOk result (λ position. (position ≡ length history + 1)
-        × Stands replica.new (history ++ event_asked line.entry.now path left ∷ [])) }
+        × Stands replica.new (history ++ event_asked command.entry.now path left ∷ [])) }
     ensures any_moment { (history : History) (left : Bytes)
-        → Stands replica.old history → IsInput line.entry.now.kind (I.remaining input.old) left
+        → Stands replica.old history → IsInput command.entry.now.kind (I.remaining input.old) left
         → LeavesOnly D.moment D.left_since (disk_of replica.old) (disk_of replica.new)
-        (KeepsBeforeOrAfter replica.old history (event_asked line.entry.now path left)) }
+        (KeepsBeforeOrAfter replica.old history (event_asked command.entry.now path left)) }
 
     // An edit that the history refuses is refused so, unless the input cannot be read.
     ensures refused { (history : History) (left : Bytes) (why : Why)
-        → Stands replica.old history → IsInput line.entry.now.kind (I.remaining input.old) left
-        → event_refusal history (event_asked line.entry.now path left) ≡ Some why
+        → Stands replica.old history → IsInput command.entry.now.kind (I.remaining input.old) left
+        → event_refusal history (event_asked command.entry.now path left) ≡ Some why
         → IsErrAnd result (λ e. (refusal_of e ≡ why) ⊎ IsOfStream e) }
 
     // And each refusal has its cause. That the input cannot be read is one of a put alone.
     ensures cause { (history : History) (left : Bytes)
-        → Stands replica.old history → IsInput line.entry.now.kind (I.remaining input.old) left
-        → IfErr result (λ e. IsOutside line.entry.now.kind e
-        ⊎ (add_refusal (room_shown replica.old) history (event_asked line.entry.now path left)
+        → Stands replica.old history → IsInput command.entry.now.kind (I.remaining input.old) left
+        → IfErr result (λ e. IsOutside command.entry.now.kind e
+        ⊎ (add_refusal (room_shown replica.old) history (event_asked command.entry.now path left)
         ≡ Some (refusal_of e))) }
-    ensures refusals { IfErr result (IsEditRefusal line.entry.now.kind) }
+    ensures refusals { IfErr result (IsEditRefusal command.entry.now.kind) }
     ensures unchanged { (history : History) → Stands replica.old history
         → IfErr result (λ e. (refusal_of e ≡ Device) ⊎ Stands replica.new history) }
 {
     history_laws();
-    let asked = read_edit(alloc, line.kind, path, input)?;
-    Ok(replica.edit(alloc, line.user, asked)?)
+    let asked = read_edit(alloc, command.kind, path, input)?;
+    Ok(replica.edit(alloc, command.user, asked)?)
 }
 
 /// The edit, with the bytes of the input where it is a put.

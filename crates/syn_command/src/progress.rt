@@ -135,15 +135,14 @@ impl<W: Write> SessionWatch for SessionProgress<W> {
         }
     }
 
-    fn planned(&mut self, items: usize) {
-        self.told.planned = items;
-    }
-
     /// Tells what was refused and what was recorded since the last call, in the order of the plan.
     /// Where one item more is done, it is the first that was recorded.
     fn settled(&mut self, settled: &SettledItems<'_>, kept: &[Kept]) {
-        // A plan that ended in the reply that made it was not told.
-        self.told.planned = self.told.planned.max(count_of(settled));
+        self.told.planned = match settled.planned {
+            Some(items) => items,
+            // There is no plan yet, or the session has ended, maybe in the reply that made it.
+            None => self.told.planned.max(count_of(settled)),
+        };
         let mut is_carried = settled.done > self.told.done;
         self.told.done = settled.done;
         for one in kept {

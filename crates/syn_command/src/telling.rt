@@ -12,12 +12,12 @@ use syn_disk::{DISK_SIZE, OpenError};
 use syn_folder::FolderError;
 use syn_refusal::Refusal;
 
-/// The status of the answer. A refusal is told in one line, and where `asked` is given in a second
-/// one in plain words. Of a script the first faulty line is told.
+/// The status of the answer. A refusal is told in one line, and where `command` is given in a
+/// second one in plain words. Of a script the first faulty line is told.
 ///
 /// An error of `errors` itself is not told: there is nowhere left to tell it.
 pub fn tell_answer<E: Write>(
-    asked: Option<&Command<'_>>,
+    command: Option<&Command<'_>>,
     answer: &Result<Outcome, Failure>,
     errors: &mut E,
 ) -> Status
@@ -26,22 +26,22 @@ pub fn tell_answer<E: Write>(
     match answer {
         Ok(outcome) => Status::from(*outcome),
         Err(failure) => {
-            tell_failure(asked, failure, errors);
+            tell_failure(command, failure, errors);
             Status::Refused
         }
     }
 }
 
 /// Why the command was not done.
-fn tell_failure<E: Write>(asked: Option<&Command<'_>>, failure: &Failure, errors: &mut E) {
+fn tell_failure<E: Write>(command: Option<&Command<'_>>, failure: &Failure, errors: &mut E) {
     match failure {
         Failure::Line(number) => {
             let _ = writeln!(errors, "syn: script line {number}");
         }
         Failure::Refused(error) => {
             refuse(error, errors);
-            if let Some(line) = asked {
-                explain(line, error, errors);
+            if let Some(command) = command {
+                explain(command, error, errors);
             }
         }
     }
@@ -66,26 +66,30 @@ fn refuse<E: Write>(error: &CommandError, errors: &mut E) {
     }
 }
 
-/// What the line is about: its files, paths, folders and addresses.
-fn name_line<E: Write>(line: &Command<'_>, errors: &mut E) -> io::Result<()> {
-    match line {
-        Command::Image(image) => name_image_line(image, errors),
+/// What the command is about: its files, paths, folders and addresses.
+fn name_subject<E: Write>(command: &Command<'_>, errors: &mut E) -> io::Result<()> {
+    match command {
+        Command::Image(image) => name_image(image, errors),
         Command::Edit(edit) => write!(errors, "syn: {} in {}", edit.path, edit.location.as_str()),
-        Command::Export(line) => write!(
+        Command::Export(export) => write!(
             errors,
             "syn: {} into {}",
-            line.location.as_str(),
-            line.folder
+            export.location.as_str(),
+            export.folder
         ),
-        Command::Import(line) => write!(
+        Command::Import(import) => write!(
             errors,
             "syn: {} into {}",
-            line.folder,
-            line.location.as_str()
+            import.folder,
+            import.location.as_str()
         ),
-        Command::Reconcile(line) => write!(errors, "syn: {} and {}", line.folder, line.file),
-        Command::Serve(line) => {
-            let (file, address) = (line.file, line.address);
+        Command::Reconcile(reconcile) => write!(
+            errors,
+            "syn: {} and {}",
+            reconcile.folder, reconcile.file
+        ),
+        Command::Serve(serve) => {
+            let (file, address) = (serve.file, serve.address);
             write!(errors, "syn: {file} at {address}")
         }
         Command::Session(pairing) | Command::Plan(pairing) => {
@@ -94,17 +98,17 @@ fn name_line<E: Write>(line: &Command<'_>, errors: &mut E) -> io::Result<()> {
             let archive = pairing.archive;
             write!(errors, "syn: {left} and {right} with {archive}")
         }
-        Command::Keep(kept) => {
-            let (left, right, archive) = (kept.left, kept.right, kept.archive);
+        Command::Keep(keep) => {
+            let (left, right, archive) = (keep.left, keep.right, keep.archive);
             write!(errors, "syn: {left} and {right} with {archive}")
         }
         Command::Simulate { script, .. } => write!(errors, "syn: {script}"),
     }
 }
 
-/// What a line about an image is about.
-fn name_image_line<E: Write>(line: &ImageCommand<'_>, errors: &mut E) -> io::Result<()> {
-    match line {
+/// What a command on one image is about: its file, and the path that is shown.
+fn name_image<E: Write>(command: &ImageCommand<'_>, errors: &mut E) -> io::Result<()> {
+    match command {
         ImageCommand::Format { file, .. }
         | ImageCommand::Check { file }
         | ImageCommand::Migrate { file }
@@ -120,8 +124,8 @@ fn name_image_line<E: Write>(line: &ImageCommand<'_>, errors: &mut E) -> io::Res
 
 /// What was refused, of which file or path, and what the system said of it, where it said
 /// something.
-fn explain<E: Write>(line: &Command<'_>, error: &CommandError, errors: &mut E) {
-    let _ = name_line(line, errors);
+fn explain<E: Write>(command: &Command<'_>, error: &CommandError, errors: &mut E) {
+    let _ = name_subject(command, errors);
     let refusal = error.refusal();
     let plain = refusal.explanation();
     let _ = match error {

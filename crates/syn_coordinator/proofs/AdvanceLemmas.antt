@@ -18,7 +18,7 @@ use Rattle.syn_coordinator.specs.Tries.{HoldsTried, IsShown, Tries}
 use Rattle.syn_coordinator.specs.declared.session_end.SessionEnd.{SessionEnd}
 use Rattle.syn_coordinator.specs.declared.session_end.SessionEnd.TheVariants.{Early, Failed}
 use Rattle.syn_coordinator.specs.declared.due.RecordOutcome.{RecordOutcome}
-use Rattle.syn_coordinator.specs.declared.tried.Unconfirmed.{Unconfirmed}
+use Rattle.syn_coordinator.specs.declared.tried.TriedRecord.{TriedRecord}
 use Rattle.syn_coordinator.proofs.TriedLemmas.{compact_writes, failed_at, kept_quiet}
 use Rattle.syn_coordinator.proofs.TriedLemmas.{tries_held, tries_none}
 use Rattle.syn_coordinator.specs.inner.Advancing.{Advanced, kept_it, refused_it, ended, stopped}
@@ -80,15 +80,15 @@ module _ (pair : ℕ) (plan : List Planned) (taken : Exchange) where
       model.checkpoints walk last (kept ++ onward) what journal fresh full less compacts up
       (goes_further _ _ last kept onward more (same ∙ (full.to_keep.up ∙ sym up)) rest)
   goes_further first middle last before onward
-      (model.checkpoint_breaks walk what journal fresh full less compacts broken) same rest =
-      absurd (broken (same ∙ full.to_keep.up))
+      (model.checkpoint_breaks walk what journal fresh full less compacts in_doubt) same rest =
+      absurd (in_doubt (same ∙ full.to_keep.up))
   goes_further first middle last before onward
       (model.keeps walk later what kept journal keep room kept_so up more) same rest =
       model.keeps walk last what (kept ++ onward) journal keep room kept_so up
       (goes_further _ _ last kept onward more (same ∙ (keep.up ∙ sym up)) rest)
   goes_further first middle last before onward
-      (model.record_breaks walk what kept journal keep room kept_so broken) same rest =
-      absurd (broken (same ∙ keep.up))
+      (model.record_breaks walk what kept journal keep room kept_so in_doubt) same rest =
+      absurd (in_doubt (same ∙ keep.up))
 
 not_up : {s : Status} → s ≡ Down → s ≢ Up
 not_up down up = cc
@@ -98,7 +98,7 @@ halted_not_up halted up = cc
 
 -- ---- what is remembered
 
-module _ (before : Status) (tried : Option Unconfirmed) (journal : Journal)
+module _ (before : Status) (tried : Option TriedRecord) (journal : Journal)
     (tries : Tries tried journal) where
   -- the machine is as it was
   pub remembers_still : (how : SessionEnd) → journal.status ≡ before →
@@ -114,7 +114,7 @@ module _ (before : Status) (tried : Option Unconfirmed) (journal : Journal)
 
 -- ---- a step
 
-module _ {D : Type 0} {disk : Ghosts D} (new : Archive D disk) (tried : Option Unconfirmed)
+module _ {D : Type 0} {disk : Ghosts D} (new : Archive D disk) (tried : Option TriedRecord)
     (pair : ℕ)
     (plan : List Planned) (taken : Exchange) (walk : Walk) (planned : Planned) (what : Kept)
     (fresh : walk.made_room ≡ false) (at : slice_get plan walk.cursor ≡ Some planned)

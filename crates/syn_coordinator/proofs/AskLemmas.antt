@@ -85,7 +85,7 @@ module _ (heard : Running) (old new : Session) (asks : Asks) (is : IsHeard old h
     (asks_of asks side))
     (number : new.number ≡ old.number) (preferred : new.preference ≡ old.preference)
     (may_wait : (side : Which) → MayWait (waiting_of (peer_of old side)
-    ++ numbered (peer_of old side).asked (asks_of asks side)))
+    ++ numbered (peer_of old side).next_number (asks_of asks side)))
     (apart : (side : Which) → AllPairs (λ one another. ¬ IsRepeat one another)
     (asks_of asks side)) where
   abbrev pub then_asking : Running
@@ -114,7 +114,7 @@ module _ (heard : Running) (old new : Session) (asks : Asks) (is : IsHeard old h
       add : (a b d : ℕ) → a + (b + d) ≡ a + b + d
       add a b d = omega arith
 
-  count_on : (side : Which) → asked_count then_asking side ≡ (peer_of new side).asked
+  count_on : (side : Which) → asked_count then_asking side ≡ (peer_of new side).next_number
   count_on Left =
       sum_on Left (count_by (λ one. is_side Left one.side) heard.taken)
       ∙ (ap (λ n. n + length (asks_of asks Left)) (is.peer Left).count ∙ sym (asked Left).count)
@@ -122,10 +122,11 @@ module _ (heard : Running) (old new : Session) (asks : Asks) (is : IsHeard old h
       sum_on Right (count_by (λ one. is_side Right one.side) heard.taken) ∙ (ap
       (λ n. n + length (asks_of asks Right)) (is.peer Right).count ∙ sym (asked Right).count)
 
-  few_on : (side : Which) → (peer_of new side).asked ≤ 2 ^ 32
-  few_on side = elim (asked side).few as (λ _. (peer_of new side).asked ≤ 2 ^ 32) [
+  few_on : (side : Which) → (peer_of new side).next_number ≤ 2 ^ 32
+  few_on side = elim (asked side).few as (λ _. (peer_of new side).next_number ≤ 2 ^ 32) [
     | inl none ↦ let same = (asked side).count
-        ∙ ap (λ l. (peer_of old side).asked + length l) none in let was = (is.peer side).few in
+        ∙ ap (λ l. (peer_of old side).next_number + length l) none in let was = (is.peer side).few
+        in
         omega (arith, same, was)
     | inr few ↦ few
   ]
@@ -142,14 +143,15 @@ module _ (heard : Running) (old new : Session) (asks : Asks) (is : IsHeard old h
             (subst (λ n. AreOfSession n (peer_of old side)) is.number was.of_session));
         rising =
             subst AreRising (sym (asked side).waits)
-            (numbered-rising (waiting_of (peer_of old side)) (peer_of old side).asked
+            (numbered-rising (waiting_of (peer_of old side)) (peer_of old side).next_number
             (asks_of asks side) was.rising was.below);
         below =
-            subst (λ w. All (λ one. one.number < (peer_of new side).asked) w)
+            subst (λ w. All (λ one. one.number < (peer_of new side).next_number) w)
             (sym (asked side).waits) (subst (λ n. All (λ one. one.number < n)
             (waiting_of (peer_of old side)
-            ++ numbered (peer_of old side).asked (asks_of asks side))) (sym (asked side).count)
-            (below_more (waiting_of (peer_of old side)) (peer_of old side).asked
+            ++ numbered (peer_of old side).next_number (asks_of asks side))) (sym (asked
+            side).count)
+            (below_more (waiting_of (peer_of old side)) (peer_of old side).next_number
             (asks_of asks side) was.below));
         may = subst MayWait (sym (asked side).waits) (may_wait side);
       }
@@ -270,8 +272,8 @@ module _ (heard : Running) (old new : Session) (asks : Asks) (is : IsHeard old h
       some_on side more =
           let long = ap length ((peer_asked side).waits ∙ (asked side).waits) in
           let both = length-append (waiting_of (peer_of old side))
-          (numbered (peer_of old side).asked (asks_of asks side)) in
-          let same = length-numbered (asks_of asks side) (peer_of old side).asked in
+          (numbered (peer_of old side).next_number (asks_of asks side)) in
+          let same = length-numbered (asks_of asks side) (peer_of old side).next_number in
           omega (arith, long, both, same, more)
 
       one_waits : (side : Which) → 1 ≤ length (outstanding then_asking side) →
@@ -299,7 +301,7 @@ module _ (heard : Running) (old new : Session) (asks : Asks) (is : IsHeard old h
   sends_that = ap₂ (λ l r. l ++ r) (on Left) (on Right)
     where
       on : (side : Which) →
-          messages_to old.number side (numbered (peer_of old side).asked (asks_of asks side))
+          messages_to old.number side (numbered (peer_of old side).next_number (asks_of asks side))
           ≡ messages_to heard.session side (numbered (asked_count heard side) (asks_of asks side))
       on side =
           ap₂ (λ n c. messages_to n side (numbered c (asks_of asks side))) (sym is.number)

@@ -19,11 +19,11 @@ use Rattle.syn_recon.specs.Items.{items_of}
 use Rattle.syn_refusal.specs.declared.refusal.Refusal.TheVariants as refusal
 use Rattle.syn_model.specs.Dirty.{IsScanBy}
 use Rattle.syn_scan.specs.Found.{Found, position_of, scan_of}
-use Rattle.syn_coordinator.specs.Recorders.{written}
+use Rattle.syn_coordinator.specs.PlanRunners.{written}
 use Rattle.syn_coordinator.specs.Machines.{IsMachine, Journal}
 use Rattle.syn_model.specs.Path.{Path}
 use Rattle.syn_session.specs.Scanning.{IsFoundIn, WasListedAt, WasNoDirectoryAt, found_of}
-use Rattle.syn_coordinator.specs.declared.recorder.Recorder.{Recorder}
+use Rattle.syn_coordinator.specs.declared.plan_runner.PlanRunner.{PlanRunner}
 use Rattle.syn_session.specs.declared.plan_progress.PlanProgress.{PlanProgress}
 use Rattle.syn_session.specs.declared.peer.PeerState.{PeerState}
 use Rattle.syn_coordinator.specs.declared.session_end.SessionEnd.{SessionEnd}
@@ -33,7 +33,7 @@ use Rattle.syn_session.specs.Answering.{IsAnswering, IsHeard, exchange_of}
 use Rattle.syn_coordinator.specs.inner.Taking.{TakesEnd, TakesOn, TakesSo}
 use Rattle.syn_session.specs.declared.session.Asks.{Asks}
 use Rattle.syn_coordinator.specs.inner.Carrying.{CarriesOn, EndsCarrying}
-use Rattle.syn_coordinator.specs.inner.Carrying as carrying
+use Rattle.syn_coordinator.specs.inner.Carrying as ending
 use Rattle.syn_session.specs.Hearing.{HasHeard, IsScanned, afterwards}
 use Rattle.syn_session.specs.Plans.{Plan}
 use Rattle.syn_session.specs.Sessions.{IsPeer, IsSession, IsStage, Tells}
@@ -47,13 +47,13 @@ use Rattle.syn_session.specs.Passing.{first_reached}
 use Rattle.syn_session.proofs.AnswerLemmas.{heard_so}
 use Rattle.syn_session.proofs.HearLemmas.{found_still}
 use Rattle.syn_coordinator.proofs.CarryLemmas.{asks_course, ends_course}
-use Rattle.syn_session.proofs.TellingLemmas.{either_false, either_nothing, scans_further}
+use Rattle.syn_session.proofs.TellingLemmas.{either_nothing, scans_further}
 use Rattle.syn_session.proofs.TellingLemmas.{tells_heard}
 use Rattle.syn_coordinator.proofs.MakingLemmas.{made_of, makes_plan}
 use Rattle.syn_session.proofs.WaitingLemmas.{alone_is, asked_has}
 use Rattle.syn_coordinator.proofs.TakeLemmas.{hears_end}
 use Rattle.syn_coordinator.proofs.TriedLemmas.{tries_none}
-use Rattle.syn_model.proofs.BaseLemmas.{contains_one, contains_none}
+use Rattle.syn_model.proofs.BaseLemmas.{and_false, contains_one, contains_none}
 use Rattle.syn_headline.proofs.StagedLemmas.{on_both}
 
 -- ---- whatever its plan, a session is heard alike
@@ -96,7 +96,7 @@ scanned_before plan cursor (Fetch path since offset) this = absurd this
 scanned_before plan cursor (Stage item offset bytes) this = absurd this
 scanned_before plan cursor (Replace item path since size) this = absurd this
 
-module _ {D : Type 0} {disk : Ghosts D} (old : Recorder D disk) (pair : ℕ) (journal : Journal)
+module _ {D : Type 0} {disk : Ghosts D} (old : PlanRunner D disk) (pair : ℕ) (journal : Journal)
     (running : Running) (taken : Exchange) (session : Session)
     (is_machine : IsMachine old.archive pair journal)
     (fault : fault_of running.taken taken.side taken.request taken.reply ≡ None)
@@ -140,7 +140,7 @@ module _ {D : Type 0} {disk : Ghosts D} (old : Recorder D disk) (pair : ℕ) (jo
           (makes_plan (hearing running taken) journal.value left right
           (items_of made.items.items) items scanned.begun on_left on_right)
 
-      module _ (new : Recorder D disk) (progress : PlanProgress) where
+      module _ (new : PlanRunner D disk) (progress : PlanProgress) where
         abbrev later : Session
         later = record session { progress = Some progress }
 
@@ -307,7 +307,7 @@ module _ (pair : ℕ) (journal : Journal) (before session : Session) (running : 
         (found_on before Right) running.taken (reached_by running) (λ transfer.
         WaitsFor transfer running.taken carrying_then.to q)) asked_it carrying_then.carries)))
 
-    module _ (law : WaitsForItem) {D : Type 0} {disk : Ghosts D} (old new : Recorder D disk)
+    module _ (law : WaitsForItem) {D : Type 0} {disk : Ghosts D} (old new : PlanRunner D disk)
         (nothing : written old ≡ []) (later : PlanProgress) where
       abbrev next : Session
       next = record session { progress = Some later }
@@ -325,13 +325,13 @@ module _ (pair : ℕ) (journal : Journal) (before session : Session) (running : 
       found_next : fault_of running.taken side request reply ≡ None →
           IsFoundOnBoth next (running.taken ++ taken ∷ [])
       found_next fault =
-          let c = spec_of carries_now.carried.transfer in
-          let it = law carries_now.carried.transfer running.taken side request carries_now.is in
+          let c = spec_of carries_now.carrying.transfer in
+          let it = law carries_now.carrying.transfer running.taken side request carries_now.is in
           let none = shows_none running.taken side c request it reply fault in
           found_with session (Some later) (λ on. found_still (found_on session on) on running.taken
           taken (found_before on)
           (ap (λ n. if is_side on side then n else 0) none.0 ∙ either_nothing (is_side on side))
-          (ap (λ b. is_side on side && b) none.1 ∙ either_false (is_side on side))
+          (ap (λ b. is_side on side && b) none.1 ∙ and_false (is_side on side))
           (λ _. lists_none c side request it))
 
       tells_before : IsPlanProgress later left right (reached_by running) → Tells next running
@@ -359,10 +359,10 @@ module _ (pair : ℕ) (journal : Journal) (before session : Session) (running : 
       carries_ending : (ended : SessionEnd) → EndsCarrying old new pair taken journal
           (reached_by running) later left right running.taken ended →
           TakesEnd new.archive new.tried pair journal running taken next (written new) ended
-      carries_ending ended (carrying.at_once why fault same is_machine quiet course_is) =
+      carries_ending ended (ending.at_once why fault same is_machine quiet course_is) =
           taking.at_once why fault (tells_before course_is) is_machine (same ∙ nothing)
           (tries_none new.tried journal quiet.0 quiet.1)
-      carries_ending ended (carrying.afterwards how fault so) =
+      carries_ending ended (ending.afterwards how fault so) =
           subst (λ k. TakesEnd new.archive new.tried pair journal running taken next k ended)
           (sym (so.1 ∙ ap (λ l. l ++ so.0) nothing))
           (ends_course new.archive pair journal running taken next later refl heard

@@ -2,9 +2,9 @@
 use Rattle.std.proofs.Common.{◌≡◌, ◌∙◌, None, Ok, Err, inl, inr, ap, refl, subst, sym}
 use Rattle.std.specs.Prelude.{IfErr, Result, true, ◌<◌}
 use Rattle.syn_archive.specs.Archive.{disk_of}
-use Rattle.syn_coordinator.specs.Recorders.{BreaksNothing, BreaksUnsent, broken}
-use Rattle.syn_coordinator.specs.Recorders.{FailsOrStops, TellsNone}
-use Rattle.syn_coordinator.specs.declared.recorder.Recorder.{Recorder}
+use Rattle.syn_coordinator.specs.PlanRunners.{BreaksNothing, BreaksUnsent, in_doubt}
+use Rattle.syn_coordinator.specs.PlanRunners.{FailsOrStops, TellsNone}
+use Rattle.syn_coordinator.specs.declared.plan_runner.PlanRunner.{PlanRunner}
 use Rattle.syn_coordinator.specs.declared.session_end.SessionEnd.{SessionEnd}
 use Rattle.syn_coordinator.specs.declared.session_end.SessionEnd.TheVariants.{Early, Failed}
 use Rattle.syn_coordinator.specs.declared.session_end.SessionEnd.TheVariants.{PlanDone}
@@ -17,24 +17,24 @@ use Rattle.syn_refusal.specs.declared.refusal.Refusal.TheVariants as refusal
 
 module _ {D : Type 0} {disk : Ghosts D} where
   -- nothing was done
-  pub none_breaks : (old : Recorder D disk) → BreaksNothing old old
-  none_breaks old = record { broken_is = refl; tried_is = refl; counted = refl }
+  pub none_breaks : (old : PlanRunner D disk) → BreaksNothing old old
+  none_breaks old = record { in_doubt_is = refl; tried_is = refl; counted = refl }
 
   -- a call that forgot first what was told of the one before
-  module _ (old middle new : Recorder D disk) (whole : broken middle ≡ None)
+  module _ (old middle new : PlanRunner D disk) (whole : in_doubt middle ≡ None)
       (tried : middle.tried ≡ old.tried) (archive : middle.archive ≡ old.archive) where
     same : disk.failures (disk_of middle.archive) ≡ disk.failures (disk_of old.archive)
     same = ap (λ a. disk.failures (disk_of a)) archive
 
     pub none_told : BreaksNothing middle new → TellsNone old new
     none_told nothing = record {
-      broken_is = nothing.broken_is ∙ whole;
+      in_doubt_is = nothing.in_doubt_is ∙ whole;
       tried_is = nothing.tried_is ∙ tried;
       counted = inl (nothing.counted ∙ same);
     }
 
   -- one call after another, of which the first breaks nothing
-  module _ (old middle new : Recorder D disk) (first : BreaksNothing old middle) where
+  module _ (old middle new : PlanRunner D disk) (first : BreaksNothing old middle) where
     counted_first : FailsOrStops middle new → FailsOrStops old new
     counted_first (inl grew) =
         inl (subst (λ n. n < disk.failures (disk_of new.archive)) first.counted grew)
@@ -42,7 +42,7 @@ module _ {D : Type 0} {disk : Ghosts D} where
 
     pub then_nothing : BreaksNothing middle new → BreaksNothing old new
     then_nothing second = record {
-      broken_is = second.broken_is ∙ first.broken_is;
+      in_doubt_is = second.in_doubt_is ∙ first.in_doubt_is;
       tried_is = second.tried_is ∙ first.tried_is;
       counted = second.counted ∙ first.counted;
     }
@@ -51,12 +51,12 @@ module _ {D : Type 0} {disk : Ghosts D} where
     then_ends PlanDone nothing = then_nothing nothing
     then_ends (Early why) nothing = then_nothing nothing
     then_ends Failed (inl unsent) = inl (record {
-      broken_is = unsent.broken_is ∙ first.broken_is;
+      in_doubt_is = unsent.in_doubt_is ∙ first.in_doubt_is;
       tried_is = unsent.tried_is ∙ first.tried_is;
       counted = counted_first unsent.counted;
     })
     then_ends Failed (inr off) = inr (record {
-      broken_is = off.broken_is;
+      in_doubt_is = off.in_doubt_is;
       is_told = off.is_told;
       counted = counted_first off.counted;
     })
@@ -67,7 +67,7 @@ module _ {D : Type 0} {disk : Ghosts D} where
     then_breaks (Err how) breaks = then_ends how breaks
 
   -- what is told of it otherwise
-  module _ (old new : Recorder D disk) where
+  module _ (old new : PlanRunner D disk) where
     -- where lack of memory alone ends it
     pub nothing_breaks : {A : Type 0} (result : Result A SessionEnd) →
         IfErr result (λ how. how ≡ Early refusal.Memory) → BreaksNothing old new →
@@ -79,7 +79,7 @@ module _ {D : Type 0} {disk : Ghosts D} where
     stopped_short : is_stopped (disk.arms (disk_of new.archive)) ≡ true → BreaksNothing old new →
         BreaksUnsent old new
     stopped_short stopped nothing = record {
-      broken_is = nothing.broken_is;
+      in_doubt_is = nothing.in_doubt_is;
       tried_is = nothing.tried_is;
       counted = inr (stopped, nothing.counted);
     }
@@ -90,4 +90,4 @@ module _ {D : Type 0} {disk : Ghosts D} where
     cut_breaks (due.Refused why) stopped nothing = inl (stopped_short stopped nothing)
     cut_breaks (due.Ends why) stopped nothing = inl (stopped_short stopped nothing)
     cut_breaks due.Unsent stopped unsent = inl unsent
-    cut_breaks due.Unconfirmed stopped off = inr off
+    cut_breaks due.Tried stopped off = inr off

@@ -23,7 +23,7 @@ use Rattle.syn_model.specs.Archive as model
 use Rattle.syn_model.specs.Archive.{Kept, Recorded, kept_refusal}
 use Rattle.syn_model.specs.Decision.{path_of}
 use Rattle.syn_propagate.specs.Carrying.{source_of, target_of}
-use Rattle.syn_propagate.specs.Carrying as carrying
+use Rattle.syn_propagate.specs.Carrying as transferring
 use Rattle.syn_propagate.specs.Transfers.{Asks as TransferAsks, WaitsFor as TransferWaitsFor}
 use Rattle.syn_propagate.specs.Transfers.{spec_of}
 use Rattle.syn_propagate.specs.declared.next.SideRequest.{SideRequest}
@@ -33,7 +33,7 @@ use Rattle.syn_session.specs.Scanning.{found_of}
 use Rattle.syn_session.specs.declared.plan_progress.PlanProgress.{PlanProgress}
 use Rattle.syn_coordinator.specs.declared.session_end.SessionEnd.{SessionEnd}
 use Rattle.syn_session.specs.declared.session.Session.{Session}
-use Rattle.syn_coordinator.specs.declared.tried.Unconfirmed.{Unconfirmed}
+use Rattle.syn_coordinator.specs.declared.tried.TriedRecord.{TriedRecord}
 use Rattle.syn_session.specs.Answering.{IsHeard, asks_alone, asks_of}
 use Rattle.syn_coordinator.specs.inner.Taking.{TakesEnd, TakesOn, Walks, reaching}
 use Rattle.syn_session.specs.declared.session.Asks.{Asks}
@@ -63,7 +63,7 @@ module _ (archive : model.Archive) (running : Running) (plan : List Planned) (pl
   here = ap₂ (λ p n. slice_get (option_map_or (λ p. p) p []) n) has_plan come ∙ at
 
   staged_on : (to : Which) → to ≡ target_of c → (count : ℕ) →
-      carrying.IsStagedTo c running.taken count → IsStagedTo running to count
+      transferring.IsStagedTo c running.taken count → IsStagedTo running to count
   staged_on to of count (inl none) = inl none
   staged_on to of count (inr (before, bytes, was, sum)) =
       inr (
@@ -76,7 +76,7 @@ module _ (archive : model.Archive) (running : Running) (plan : List Planned) (pl
       )
 
   fetched_from : (from : Which) → from ≡ source_of c → (total offset : ℕ) (bytes : _) →
-      carrying.WasFetched c running.taken total offset bytes → WasTaken running.taken from
+      transferring.WasFetched c running.taken total offset bytes → WasTaken running.taken from
       (Fetch (path_of planned.item) (seen_on planned from).since offset) (Piece total bytes)
   fetched_from from of total offset bytes was =
       subst (λ w. WasTaken running.taken w
@@ -90,7 +90,7 @@ module _ (archive : model.Archive) (running : Running) (plan : List Planned) (pl
   writes_to : (to : Which) → to ≡ target_of c → WritesTo planned.item to c.path
   writes_to to of = subst (λ w. WritesTo planned.item w c.path) (sym of) is.writes
 
-  pub may_ask : (to : Which) (request : Request) → carrying.MayAsk c running.taken to request →
+  pub may_ask : (to : Which) (request : Request) → transferring.MayAsk c running.taken to request →
       MayAsk archive running to request
   may_ask to (Begin pair) may = absurd may
   may_ask to (ListAt path) may = absurd may
@@ -216,7 +216,7 @@ module _ {D : Type 0} {disk : Ghosts D} (new : Archive D disk) (pair : ℕ) (jou
   }
 
   -- it comes to its end
-  pub ends_course : (tried : Option Unconfirmed) (kept : List Kept) (ended : SessionEnd) →
+  pub ends_course : (tried : Option TriedRecord) (kept : List Kept) (ended : SessionEnd) →
       Ends new tried pair
       taken journal before kept progress (found_on session Left) (found_on session Right) ended →
       TakesEnd new tried pair journal running taken session kept ended
@@ -239,9 +239,9 @@ module _ {D : Type 0} {disk : Ghosts D} (new : Archive D disk) (pair : ℕ) (jou
     now_at = reaching running taken comes.after
 
     abbrev c : TransferSpec
-    c = spec_of comes.carries.carried.transfer
+    c = spec_of comes.carries.carrying.transfer
 
-    asked : TransferAsks comes.carries.carried.transfer (running.taken ++ taken ∷ [])
+    asked : TransferAsks comes.carries.carrying.transfer (running.taken ++ taken ∷ [])
         (which_of wants.to) wanted
     asked = comes.carries.is
 
@@ -286,9 +286,9 @@ module _ {D : Type 0} {disk : Ghosts D} (new : Archive D disk) (pair : ℕ) (jou
         requests_on (peer_of later side) ≡ asks_of (One wants) side
     now_asks side later asking =
         ap (map (λ (one : Outstanding). one.request)) ((asking.peer side).waits
-        ∙ ap (λ w. w ++ numbered (peer_of session side).asked
+        ∙ ap (λ w. w ++ numbered (peer_of session side).next_number
         (asks_of (One wants) side)) (silent side))
-        ∙ numbered_requests (peer_of session side).asked (asks_of (One wants) side)
+        ∙ numbered_requests (peer_of session side).next_number (asks_of (One wants) side)
 
     few_asked : (to : Side) (on : Which) → length (asks_alone to on wanted) ≤ 1
     few_asked side_is.Left Left = omega arith
@@ -297,13 +297,13 @@ module _ {D : Type 0} {disk : Ghosts D} (new : Archive D disk) (pair : ℕ) (jou
     few_asked side_is.Right Right = omega arith
 
     may_wait_so : (side : Which) → MayWait (waiting_of (peer_of session side)
-        ++ numbered (peer_of session side).asked (asks_of (One wants) side))
+        ++ numbered (peer_of session side).next_number (asks_of (One wants) side))
     may_wait_so side =
         let few = few_asked wants.to side in
         let none = ap length (silent side) in
         let long = length-append (waiting_of (peer_of session side))
-        (numbered (peer_of session side).asked (asks_of (One wants) side)) in
-        let same = numbered-length (peer_of session side).asked
+        (numbered (peer_of session side).next_number (asks_of (One wants) side)) in
+        let same = numbered-length (peer_of session side).next_number
         (asks_of (One wants) side) in
         inl (omega (arith, few, none, long, same))
 
@@ -331,7 +331,7 @@ module _ {D : Type 0} {disk : Ghosts D} (new : Archive D disk) (pair : ℕ) (jou
         (running.taken ++ taken ∷ []) (which_of wants.to) wanted))
         (sym (asking.peer Left).scan) (record {
           course_is = comes.carries.course_is;
-          carried = comes.carries.carried;
+          carrying = comes.carries.carrying;
           is_carried = comes.carries.is_carried;
           planned = comes.carries.planned;
           at = comes.carries.at;
@@ -370,7 +370,7 @@ module _ {D : Type 0} {disk : Ghosts D} (new : Archive D disk) (pair : ℕ) (jou
               subst (λ w. MayAsk comes.journal.value now_at w wanted) (sym that.0)
                   (may_ask comes.journal.value now_at (plan_in progress (found_on session Left)
                   (found_on session Right)) comes.carries.planned c
-                  (kept_for comes.carries.carried.kept) course_is.plan progress.cursor
+                  (kept_for comes.carries.carrying.item_record) course_is.plan progress.cursor
                   course_is.cursor
                   comes.carries.at comes.carries.carries.spec comes.carries.carries.record_is
                   comes.carries.carries.can (which_of wants.to) wanted asked.may),

@@ -20,7 +20,7 @@ use Rattle.syn_coordinator.specs.Openings.{OpensAs, RestsStill, RestsWith}
 use Rattle.syn_coordinator.specs.Coordinators.{Stands}
 use Rattle.syn_coordinator.specs.Tries.{found_in, listed}
 use Rattle.syn_coordinator.specs.declared.coordinator.Coordinator.{Coordinator}
-use Rattle.syn_coordinator.specs.declared.tried.Unconfirmed.{Unconfirmed}
+use Rattle.syn_coordinator.specs.declared.tried.TriedRecord.{TriedRecord}
 use Rattle.syn_coordinator.proofs.OpeningLemmas.{found_is}
 use Rattle.syn_coordinator.proofs.TriedLemmas.{tries_still}
 
@@ -41,7 +41,7 @@ with_journal_alone machine journal idle =
     none_runs Down = refl
 
 module _ {D : Type 0} (arms : D → DiskArms) (may_leave : D → Bytes → Type 0) (pair : ℕ)
-    (device : D) (tried : Option Unconfirmed) (opening : CoordinatorMachine)
+    (device : D) (tried : Option TriedRecord) (opening : CoordinatorMachine)
     (rests : RestsWith arms may_leave pair device tried opening) where
   -- it is opened
   pub open_ok : {disk : Ghosts D} (archive : Archive D disk) (coordinator : Coordinator D disk)

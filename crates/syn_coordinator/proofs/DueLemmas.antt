@@ -145,10 +145,10 @@ module _ {D : Type 0} {disk : Ghosts D} (new : Archive D disk) (pair : ℕ) (mac
       KeepsSo new pair machine kept (kept ∷ []) Up
   was_kept (by_archive.keeps so) = so
 
-  pub was_broken : KeepsRecord new pair machine kept (Some Device) →
+  pub was_in_doubt : KeepsRecord new pair machine kept (Some Device) →
       KeepsSo new pair machine kept [] Halted
-  was_broken (by_archive.breaks so) = so
-  was_broken (refuses why other is) = absurd (other refl)
+  was_in_doubt (by_archive.breaks so) = so
+  was_in_doubt (refuses why other is) = absurd (other refl)
 
   pub was_refused : (why : Refusal) → why ≢ Device → KeepsRecord new pair machine kept (Some why) →
       IsMachine new pair machine

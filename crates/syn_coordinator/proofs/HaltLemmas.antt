@@ -4,9 +4,9 @@ use Rattle.std.proofs.Common.{sym}
 use Rattle.std.proofs.lemmas.Bool.{false≢true}
 use Rattle.syn_archive.specs.Archive.{IsHalted, Stands, disk_of}
 use Rattle.syn_archive.specs.declared.archive.Archive.{Archive}
-use Rattle.syn_coordinator.specs.Recorders.{BreaksOff, BreaksUnsent}
-use Rattle.syn_coordinator.specs.Recorders.{FailsOrStops as Counted}
-use Rattle.syn_coordinator.specs.declared.recorder.Recorder.{Recorder}
+use Rattle.syn_coordinator.specs.PlanRunners.{BreaksOff, BreaksUnsent}
+use Rattle.syn_coordinator.specs.PlanRunners.{FailsOrStops as Counted}
+use Rattle.syn_coordinator.specs.declared.plan_runner.PlanRunner.{PlanRunner}
 use Rattle.syn_coordinator.specs.declared.session_end.SessionEnd.{SessionEnd}
 use Rattle.syn_coordinator.specs.inner.Advancing.{BreaksAs}
 use Rattle.syn_coordinator.specs.inner.Taking.{TakesEnd, at_once, ends, goes_down}
@@ -42,7 +42,7 @@ keeps_not_halted new pair machine kept done (moves_on journal keeps up is) halte
 keeps_not_halted new pair machine kept done (moves_down journal keeps stopped down leaves) halted =
     stopped
 
-module _ {D : Type 0} {disk : Ghosts D} (old new : Recorder D disk) where
+module _ {D : Type 0} {disk : Ghosts D} (old new : PlanRunner D disk) where
   abbrev FailsOrStops : Type 0
   FailsOrStops = (disk.failures (disk_of old.archive) < disk.failures (disk_of new.archive))
       ⊎ (is_stopped (disk.arms (disk_of new.archive)) ≡ true)
@@ -51,9 +51,9 @@ module _ {D : Type 0} {disk : Ghosts D} (old new : Recorder D disk) where
   counted_so (inl grew) = inl grew
   counted_so (inr stopped) = inr stopped.0
 
-  broken : BreaksUnsent old new ⊎ BreaksOff old new → FailsOrStops
-  broken (inl unsent) = counted_so unsent.counted
-  broken (inr off) = counted_so off.counted
+  in_doubt : BreaksUnsent old new ⊎ BreaksOff old new → FailsOrStops
+  in_doubt (inl unsent) = counted_so unsent.counted
+  in_doubt (inr off) = counted_so off.counted
 
   -- the session ended in the call
   pub ends_by_failure : (pair : ℕ) (journal : Journal) → journal.status ≡ Up → (running : Running)
@@ -65,13 +65,13 @@ module _ {D : Type 0} {disk : Ghosts D} (old new : Recorder D disk) where
       absurd (up_not_halted new.archive pair journal is up halted)
   ends_by_failure pair journal up running taken session kept _
       (ends ended walk after walks cursor refused why is tells remembers) breaks halted =
-      broken (subst (BreaksAs old new)
+      in_doubt (subst (BreaksAs old new)
       (remembers.fails up (when_halted new.archive pair walk.journal is halted)) breaks)
   ends_by_failure pair journal up running taken session kept _
       (goes_down ended walk after walks stopped down leaves tries) breaks halted = inr stopped
 
 -- and so it was where the calls before and after it left the archive
-pub fails_or_stops : {D : Type 0} {disk : Ghosts D} (first old new last : Recorder D disk) →
+pub fails_or_stops : {D : Type 0} {disk : Ghosts D} (first old new last : PlanRunner D disk) →
     old.archive ≡ first.archive → last.archive ≡ new.archive → FailsOrStops old new →
     FailsOrStops first last
 fails_or_stops {D} {disk} first old new last before later how =

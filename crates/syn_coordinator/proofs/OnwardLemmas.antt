@@ -12,7 +12,7 @@ use Rattle.syn_headline.specs.Side as model
 use Rattle.syn_model.specs.Refusal.{Refusal as Why}
 use Rattle.syn_scan.specs.Found.{Found}
 use Rattle.syn_coordinator.specs.Machines.{IsMachine, Journal}
-use Rattle.syn_coordinator.specs.declared.recorder.Recorder.{Recorder}
+use Rattle.syn_coordinator.specs.declared.plan_runner.PlanRunner.{PlanRunner}
 use Rattle.syn_session.specs.declared.plan_progress.PlanProgress.{PlanProgress}
 use Rattle.syn_session.specs.declared.session.Asks.{Asks}
 use Rattle.syn_session.specs.declared.session.Asks.TheVariants.{One}
@@ -29,7 +29,7 @@ use Rattle.syn_coordinator.proofs.PassLemmas.{turn_further}
 use Rattle.syn_coordinator.proofs.WalkLemmas.{passes_refused}
 
 module _ {D : Type 0} {disk : Ghosts D} (pair : ℕ) (taken : Exchange) (journal : Journal)
-    (before : Reached) (left right : Found) (all : List Exchange) (old middle : Recorder D disk)
+    (before : Reached) (left right : Found) (all : List Exchange) (old middle : PlanRunner D disk)
     (was progress : PlanProgress) (planned : Planned)
     (out : IsCarriedOut was left right all before planned)
     (past : IsPast old middle pair taken journal before progress left right) where
@@ -61,7 +61,7 @@ module _ {D : Type 0} {disk : Ghosts D} (pair : ℕ) (taken : Exchange) (journal
   unfolding come
   at_next = at_turn pair taken journal before left right all old middle progress come
 
-  module _ (new : Recorder D disk) (later : PlanProgress) where
+  module _ (new : PlanRunner D disk) (later : PlanProgress) where
     pub asks_later : (asks : Asks) →
         AsksSo middle new pair taken past.3.journal past.3.after later left right all asks →
         AsksLater old new pair taken journal before later left right all asks
@@ -111,22 +111,22 @@ refused_so pair taken journal before left right all progress planned out why ref
 module _ {D : Type 0} {disk : Ghosts D} (pair : ℕ) (taken : Exchange) (journal : Journal)
     (before : Reached) (left right : Found) (all : List Exchange) where
   -- it asks for the same item again
-  pub carries_further : (recorder : Recorder D disk) (progress : PlanProgress) →
-      IsMachine recorder.archive pair journal → IsQuiet recorder journal → (asked : SideRequest) →
+  pub carries_further : (runner : PlanRunner D disk) (progress : PlanProgress) →
+      IsMachine runner.archive pair journal → IsQuiet runner journal → (asked : SideRequest) →
       fault_of all taken.side taken.request taken.reply ≡ None → is_last taken.reply ≡ false →
       Carries journal.value progress left right (all ++ taken ∷ []) before
       (λ transfer. AsksFor transfer (all ++ taken ∷ []) asked) →
-      CarriesOn recorder recorder pair taken journal before progress left right all (One asked)
-  carries_further recorder progress is quiet asked fault goes carries = record {
+      CarriesOn runner runner pair taken journal before progress left right all (One asked)
+  carries_further runner progress is quiet asked fault goes carries = record {
     fault = fault;
     asks_so =
-        asks_here pair taken journal before left right recorder is quiet progress
+        asks_here pair taken journal before left right runner is quiet progress
         (all ++ taken ∷ []) (One asked) carries;
     last = λ last. absurd (false≢true (sym goes ∙ last));
   }
 
   -- it is past the item
-  pub goes_later : (old new : Recorder D disk) (progress : PlanProgress) →
+  pub goes_later : (old new : PlanRunner D disk) (progress : PlanProgress) →
       fault_of all taken.side taken.request taken.reply ≡ None →
       (result : Result Asks SessionEnd) → MatchResult result
       (AsksLater old new pair taken journal before progress left right (all ++ taken ∷ []))

@@ -17,7 +17,7 @@ use Rattle.syn_model.specs.MarkSpelling.{mark_spelling}
 use Rattle.syn_model.specs.Path.{path_spelling}
 use Rattle.syn_coordinator.specs.Machines.{Journal}
 use Rattle.syn_coordinator.specs.Tries.{Tries, found_in, is_in, listed, record_of}
-use Rattle.syn_coordinator.specs.declared.tried.Unconfirmed.{Unconfirmed}
+use Rattle.syn_coordinator.specs.declared.tried.TriedRecord.{TriedRecord}
 use Rattle.syn_coordinator.proofs.TriedLemmas.{room_left}
 use Rattle.syn_model.proofs.BaseLemmas.{and_false}
 
@@ -66,7 +66,7 @@ either pair machine room generation (inr made) = inr (made.1, made.2)
 module _ {D : Type 0} {disk : Ghosts D} (archive : Archive D disk) (pair : ℕ)
     (machine : Journal) where
   -- what its readings tell is what the opening gave
-  pub found_is : (tried : Option Unconfirmed) (calls : ℕ) (new : Journal) (kept : List Kept) →
+  pub found_is : (tried : Option TriedRecord) (calls : ℕ) (new : Journal) (kept : List Kept) →
       Tries tried machine → Opens (archive_layout pair) CanKeep machine calls new kept →
       left_shown archive ≡ new.room → generation_shown archive ≡ new.generation →
       kept ≡ listed (found_in tried archive)

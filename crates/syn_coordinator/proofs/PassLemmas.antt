@@ -17,10 +17,10 @@ use Rattle.syn_refusal.specs.Refusals.{cause_of}
 use Rattle.syn_refusal.specs.declared.refusal.Refusal.{Refusal}
 use Rattle.syn_refusal.specs.declared.refusal.Refusal.TheVariants as refusal
 use Rattle.syn_scan.specs.Found.{Found}
-use Rattle.syn_coordinator.specs.Recorders.{written}
+use Rattle.syn_coordinator.specs.PlanRunners.{written}
 use Rattle.syn_coordinator.specs.Machines.{IsMachine, Journal}
-use Rattle.syn_coordinator.specs.declared.recorder.Recorder.{Recorder}
-use Rattle.syn_session.specs.declared.plan_progress.Carried.{Carried}
+use Rattle.syn_coordinator.specs.declared.plan_runner.PlanRunner.{PlanRunner}
+use Rattle.syn_session.specs.declared.plan_progress.Carrying.{Carrying}
 use Rattle.syn_session.specs.Carrying.{AsksOne}
 use Rattle.syn_session.specs.declared.plan_progress.PlanProgress.{PlanProgress}
 use Rattle.syn_session.specs.declared.session.Asks.{Asks}
@@ -29,7 +29,7 @@ use Rattle.syn_coordinator.specs.declared.session_end.SessionEnd.TheVariants.{Ea
 use Rattle.syn_session.specs.Passing.{refused_at}
 use Rattle.syn_session.specs.Plans.{Plan}
 use Rattle.syn_coordinator.specs.inner.Settling.{AsksSo, EndsSo, HasCome, IsPast, IsQuiet, PassesOn}
-use Rattle.syn_coordinator.specs.declared.tried.Unconfirmed.{Unconfirmed}
+use Rattle.syn_coordinator.specs.declared.tried.TriedRecord.{TriedRecord}
 use Rattle.syn_coordinator.proofs.AdvanceLemmas.{remembers_still}
 use Rattle.syn_coordinator.proofs.TriedLemmas.{tries_none}
 use Rattle.syn_session.specs.Stages.{AreAskedBefore, Carries, IsCarriageOf, IsPlanProgress, Reached}
@@ -63,20 +63,21 @@ module _ {D : Type 0} {disk : Ghosts D} (pair : ℕ) (taken : Exchange) (journal
   -- the archive refuses the record of what is carried
   pub carried_unfit : (archive : Archive D disk) → IsMachine archive pair journal →
       (progress : PlanProgress) → IsPlanProgress progress left right before → (planned : Planned) →
-      slice_get (plan_in progress left right) progress.cursor ≡ Some planned → (carried : Carried) →
-      IsCarriageOf (spec_of carried.transfer) planned progress.cursor →
-      record_for planned planned.item ≡ Some (kept_for carried.kept) → (why : Refusal) →
-      Some (cause_of why) ≡ kept_refusal (shown archive) (kept_for carried.kept) →
+      slice_get (plan_in progress left right) progress.cursor ≡ Some planned → (carrying :
+      Carrying) →
+      IsCarriageOf (spec_of carrying.transfer) planned progress.cursor →
+      record_for planned planned.item ≡ Some (kept_for carrying.item_record) → (why : Refusal) →
+      Some (cause_of why) ≡ kept_refusal (shown archive) (kept_for carrying.item_record) →
       Passes pair taken journal before journal (refused_at before (cause_of why) planned) []
-  carried_unfit archive is progress course_is planned at carried spec record_is why refused =
+  carried_unfit archive is progress course_is planned at carrying spec record_is why refused =
       passes_unfit pair taken journal before planned
-      (at_walk before progress left right course_is planned at) (kept_for carried.kept)
+      (at_walk before progress left right course_is planned at) (kept_for carrying.item_record)
       (cause_of why) record_is
-      (inl (is_carried planned (spec_of carried.transfer) progress.cursor spec))
-      (ap (λ a. kept_refusal a (kept_for carried.kept)) (sym is.remembers) ∙ sym refused)
+      (inl (is_carried planned (spec_of carrying.transfer) progress.cursor spec))
+      (ap (λ a. kept_refusal a (kept_for carrying.item_record)) (sym is.remembers) ∙ sym refused)
 
   -- no item is left
-  pub ends_settled : (archive : Archive D disk) (tried : Option Unconfirmed) →
+  pub ends_settled : (archive : Archive D disk) (tried : Option TriedRecord) →
       IsMachine archive pair journal → tried ≡ None → journal.writing ≡ None →
       (progress : PlanProgress) →
       IsPlanProgress progress left right before →
@@ -91,7 +92,7 @@ module _ {D : Type 0} {disk : Ghosts D} (pair : ℕ) (taken : Exchange) (journal
       is course_is (remembers_still journal.status tried journal
       (tries_none tried journal untried quiet) _ refl)
 
-  module _ (old new : Recorder D disk) (was later : PlanProgress) (all : List Exchange)
+  module _ (old new : PlanRunner D disk) (was later : PlanProgress) (all : List Exchange)
       (at : IsAtItem was left right all before) where
     -- nothing was asked for the item after
     pub on_past : IsPast old new pair taken journal before later left right →
@@ -112,29 +113,49 @@ module _ {D : Type 0} {disk : Ghosts D} (pair : ℕ) (taken : Exchange) (journal
         next = ap suc (sym at.course_is.cursor) ∙ past.2
 
   -- memory is refused, and the progress stays
-  pub ends_here : (recorder : Recorder D disk) → IsMachine recorder.archive pair journal →
-      IsQuiet recorder journal → (was later : PlanProgress) →
+  pub ends_here : (runner : PlanRunner D disk) → IsMachine runner.archive pair journal →
+      IsQuiet runner journal → (was later : PlanProgress) →
       IsPlanProgress was left right before →
       later ≡ was → (how : SessionEnd) → how ≡ Early refusal.Memory →
-      EndsSo recorder recorder pair taken journal before later left right how
-  ends_here recorder is quiet was later course_is same how memory = (
+      EndsSo runner runner pair taken journal before later left right how
+  ends_here runner is quiet was later course_is same how memory = (
     [],
     sym (append-nil _),
-    subst (λ e. Ends recorder.archive recorder.tried pair taken journal before
+    subst (λ e. Ends runner.archive runner.tried pair taken journal before
         [] later left right e) (sym memory)
-        (subst (λ c. Ends recorder.archive recorder.tried pair taken journal before
+        (subst (λ c. Ends runner.archive runner.tried pair taken journal before
         [] c left right (Early refusal.Memory)) (sym same)
-        (ends_for_memory recorder.archive recorder.tried pair taken journal before was left
+        (ends_for_memory runner.archive runner.tried pair taken journal before was left
         right is quiet.0 quiet.1 course_is)),
   )
 
+  -- it is past the item, and nothing was written
+  pub past_here : (runner : PlanRunner D disk) → IsMachine runner.archive pair journal →
+      IsQuiet runner journal → (later : PlanProgress) (after : Reached) →
+      suc before.cursor ≡ after.cursor → Passes pair taken journal before journal after [] →
+      IsPlanProgress later left right after →
+      IsPast runner runner pair taken journal before later left right
+  past_here runner is quiet later after next passes course_is = (
+    [],
+    sym (append-nil _),
+    next ∙ course_is.cursor,
+    record {
+      journal = journal;
+      after = after;
+      passes = passes;
+      is = is;
+      course_is = course_is;
+    },
+    quiet.0,
+  )
+
   -- it asks for the item that it has come to
-  pub asks_here : (recorder : Recorder D disk) → IsMachine recorder.archive pair journal →
-      IsQuiet recorder journal → (progress : PlanProgress) (all : List Exchange) (asks : Asks) →
+  pub asks_here : (runner : PlanRunner D disk) → IsMachine runner.archive pair journal →
+      IsQuiet runner journal → (progress : PlanProgress) (all : List Exchange) (asks : Asks) →
       Carries journal.value progress left right all before
       (λ transfer. AsksOne transfer all asks) →
-      AsksSo recorder recorder pair taken journal before progress left right all asks
-  asks_here recorder is quiet progress all asks carries = (
+      AsksSo runner runner pair taken journal before progress left right all asks
+  asks_here runner is quiet progress all asks carries = (
     [],
     sym (append-nil _),
     record {
@@ -156,11 +177,11 @@ module _ {D : Type 0} {disk : Ghosts D} (pair : ℕ) (taken : Exchange) (journal
 module _ {D : Type 0} {disk : Ghosts D} (pair : ℕ) (taken : Exchange) (journal : Journal)
     (before : Reached) (left right : Found) (all : List Exchange) where
   -- before the first
-  pub no_turn : (recorder : Recorder D disk) → IsMachine recorder.archive pair journal →
-      IsQuiet recorder journal → (progress : PlanProgress) →
+  pub no_turn : (runner : PlanRunner D disk) → IsMachine runner.archive pair journal →
+      IsQuiet runner journal → (progress : PlanProgress) →
       IsAtItem progress left right all before →
-      HasCome recorder recorder pair taken journal before progress left right all
-  no_turn recorder is quiet progress at = (
+      HasCome runner runner pair taken journal before progress left right all
+  no_turn runner is quiet progress at = (
     [],
     sym (append-nil _),
     record {
@@ -175,7 +196,7 @@ module _ {D : Type 0} {disk : Ghosts D} (pair : ℕ) (taken : Exchange) (journal
     quiet.0,
   )
 
-  module _ (first middle : Recorder D disk) (progress : PlanProgress)
+  module _ (first middle : PlanRunner D disk) (progress : PlanProgress)
       (come : HasCome first middle pair taken journal before progress left right all) where
     -- where a turn begins
     pub at_turn : IsAtItem progress left right all come.2.after
@@ -201,7 +222,7 @@ module _ {D : Type 0} {disk : Ghosts D} (pair : ℕ) (taken : Exchange) (journal
           progress left right come.2.is come.5 (come.2.passes.quiet quiet) come.2.course_is))),
     )
 
-    module _ (last : Recorder D disk) (later : PlanProgress) where
+    module _ (last : PlanRunner D disk) (later : PlanProgress) where
       both : (kept : List Kept) → written last ≡ written middle ++ kept →
           written last ≡ written first ++ (come.0 ++ kept)
       both kept more =

@@ -43,7 +43,8 @@ use Rattle.syn_coordinator.specs.inner.Recording.{Records, RefusesFor, breaks, i
 use Rattle.syn_coordinator.specs.inner.Recording.{memory_refused, no_room, refuses, written}
 use Rattle.syn_coordinator.specs.inner.Recording.{Checkpoints, IsUnmade, at_greatest, breaks_off}
 use Rattle.syn_coordinator.specs.inner.Recording.{no_memory}
-use Rattle.syn_coordinator.proofs.DueLemmas.{is_ready, room_is, was_broken, was_kept, was_refused}
+use Rattle.syn_coordinator.proofs.DueLemmas.{is_ready, room_is, was_in_doubt, was_kept}
+use Rattle.syn_coordinator.proofs.DueLemmas.{was_refused}
 use Rattle.syn_coordinator.proofs.DueLemmas.{is_greatest, not_greatest, not_halted, when_halted}
 use Rattle.syn_coordinator.proofs.DueLemmas.{was_cut_short, was_not_compacted, when_runs}
 use Rattle.syn_coordinator.proofs.OutcomeLemmas.{device_not_full, failed}
@@ -280,7 +281,7 @@ module _ {D : Type 0} {disk : Ghosts D} (old new : Archive D disk) (kept : Kept)
         let both = nothing_refuses (when_runs old pair machine is runs)
         (without_cause old kept error.Device (λ e. cc) (not_device (shown old) kept) refuse runs) in
         subst (Records new pair machine kept) (sym for)
-        (breaks both.0 both.1 (was_broken new pair machine kept world))
+        (breaks both.0 both.1 (was_in_doubt new pair machine kept world))
     records (Err error.JournalFull) refuse causes refusals halted world due for =
         let was = when_runs old pair machine is
         (running (Some why.JournalFull) halted (λ e. cc)) in

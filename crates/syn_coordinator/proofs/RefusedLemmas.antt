@@ -27,7 +27,7 @@ use Rattle.syn_coordinator.specs.Coordinators.{checkpoint_refusals, device_of, e
 use Rattle.syn_coordinator.specs.Coordinators.{report_shown, runs, goes_on, goes_down}
 use Rattle.syn_coordinator.specs.Tries.{Tries, found_in, listed}
 use Rattle.syn_coordinator.proofs.OpeningLemmas.{found_is}
-use Rattle.syn_coordinator.specs.declared.tried.Unconfirmed.{Unconfirmed}
+use Rattle.syn_coordinator.specs.declared.tried.TriedRecord.{TriedRecord}
 use Rattle.syn_coordinator.proofs.TriedLemmas.{tries_none, tries_still, untried_up}
 use Rattle.syn_coordinator.proofs.ReopenLemmas.{Reopened, opened_again, cut_off, NotReopened}
 use Rattle.syn_coordinator.proofs.ReopenLemmas.{stayed, went_down}
@@ -168,7 +168,7 @@ runs_up archive pair journal is up =
     elim is.state as (λ _. Runs archive journal)
     [ inl runs ↦ runs | inr fails ↦ absurd (halted_not_up (sym fails.halted ∙ up)) ]
 
-cut_tries : (pair : ℕ) (tried : Option Unconfirmed) (machine journal : Journal) (kept : List Kept) →
+cut_tries : (pair : ℕ) (tried : Option TriedRecord) (machine journal : Journal) (kept : List Kept) →
     Reopened pair machine journal kept → journal.status ≡ Down → Tries tried machine →
     Tries tried journal
 cut_tries pair tried machine journal kept
@@ -180,7 +180,7 @@ cut_tries pair tried machine journal kept
 cut_tries pair tried machine journal kept (cut_off calls arms failures meets) down tries =
     tries_still tried machine Down arms failures (λ _. down_not_up) tries
 
-unopened_tries : (pair : ℕ) (tried : Option Unconfirmed) (machine journal : Journal)
+unopened_tries : (pair : ℕ) (tried : Option TriedRecord) (machine journal : Journal)
     (met left : Status) →
     (machine.status ≢ Up → left ≢ Up) → NotReopened machine met left journal →
     Tries tried machine → Tries tried journal
@@ -222,10 +222,10 @@ module _ {D : Type 0} {disk : Ghosts D} (old new : Coordinator D disk) (pair : �
       goes Down never = absurd (never refl)
 
   stands_with : (status : Status) → status ≢ Down → (journal : Journal) → journal.status ≡ status →
-      IsMachine new.recorder.archive pair journal → (is_some machine.running ≡ true →
+      IsMachine new.runner.archive pair journal → (is_some machine.running ≡ true →
       (journal.value ≡ machine.journal.value) × (journal.writing ≡ None)) →
-      (is_some machine.running ≡ true → new.recorder.tried ≡ None) →
-      Tries new.recorder.tried journal →
+      (is_some machine.running ≡ true → new.runner.tried ≡ None) →
+      Tries new.runner.tried journal →
       Stands new pair (with_archive machine journal)
   stands_with status up journal is_status is keeps untried tries =
       let running = still_running status up journal is_status in record {
@@ -241,17 +241,17 @@ module _ {D : Type 0} {disk : Ghosts D} (old new : Coordinator D disk) (pair : �
       }
 
   -- nothing was tried at a machine that is up, and a checkpoint writes no record
-  tries_none_up : Runs old.recorder.archive machine.journal →
-      new.recorder.tried ≡ old.recorder.tried → (journal : Journal) →
-      Compacts (archive_layout pair) machine.journal journal → Tries new.recorder.tried journal
+  tries_none_up : Runs old.runner.archive machine.journal →
+      new.runner.tried ≡ old.runner.tried → (journal : Journal) →
+      Compacts (archive_layout pair) machine.journal journal → Tries new.runner.tried journal
   tries_none_up was same_tried journal compacts =
-      tries_none new.recorder.tried journal
-      (same_tried ∙ untried_up old.recorder.tried machine.journal stands.tries was.up)
+      tries_none new.runner.tried journal
+      (same_tried ∙ untried_up old.runner.tried machine.journal stands.tries was.up)
       ((compact_keeps pair machine.journal journal compacts).1 ∙ was.idle)
 
-  pub checkpoint_does : Runs old.recorder.archive machine.journal →
-      new.recorder.tried ≡ old.recorder.tried →
-      (status : Status) → status ≢ Down → CompactsSo new.recorder.archive pair machine.journal
+  pub checkpoint_does : Runs old.runner.archive machine.journal →
+      new.runner.tried ≡ old.runner.tried →
+      (status : Status) → status ≢ Down → CompactsSo new.runner.archive pair machine.journal
       status →
       Does old new pair (Checkpoints (coordinator_kind pair) machine) [] []
   checkpoint_does was same_tried status up (moves_on journal compacts is_status is) =
@@ -268,36 +268,36 @@ module _ {D : Type 0} {disk : Ghosts D} (old new : Coordinator D disk) (pair : �
 
   -- it forgets what was tried once it is opened again
   tries_again : (kept : List Kept) (journal : Journal) →
-      Reopened pair machine.journal journal kept → journal.status ≡ Up → new.recorder.tried ≡ None →
-      Tries new.recorder.tried journal
+      Reopened pair machine.journal journal kept → journal.status ≡ Up → new.runner.tried ≡ None →
+      Tries new.runner.tried journal
   tries_again kept journal again up forgets =
-      tries_none new.recorder.tried journal forgets
+      tries_none new.runner.tried journal forgets
       (opened_quiet pair machine.journal journal kept again up)
 
   tries_cut : (kept : List Kept) (journal : Journal) → Reopened pair machine.journal journal kept →
-      journal.status ≡ Down → new.recorder.tried ≡ old.recorder.tried →
-      Tries new.recorder.tried journal
+      journal.status ≡ Down → new.runner.tried ≡ old.runner.tried →
+      Tries new.runner.tried journal
   tries_cut kept journal again down same_tried =
       subst (λ t. Tries t journal) (sym same_tried)
-      (cut_tries pair old.recorder.tried machine.journal journal kept again down stands.tries)
+      (cut_tries pair old.runner.tried machine.journal journal kept again down stands.tries)
 
   tries_unopened : (met left : Status) → (machine.journal.status ≢ Up → left ≢ Up) →
       (journal : Journal) → NotReopened machine.journal met left journal →
-      new.recorder.tried ≡ old.recorder.tried →
-      Tries new.recorder.tried journal
+      new.runner.tried ≡ old.runner.tried →
+      Tries new.runner.tried journal
   tries_unopened met left stops journal not_opened same_tried =
-      subst (λ t. Tries t journal) (sym same_tried) (unopened_tries pair old.recorder.tried
+      subst (λ t. Tries t journal) (sym same_tried) (unopened_tries pair old.runner.tried
       machine.journal journal met left stops not_opened stands.tries)
 
   -- what it gave is what the archive shows
   gives : (found : Option Kept) (kept : List Kept) (journal : Journal) →
       Reopened pair machine.journal journal kept → journal.status ≡ Up →
-      IsMachine new.recorder.archive pair journal → found ≡ found_in old.recorder.tried
-      new.recorder.archive →
+      IsMachine new.runner.archive pair journal → found ≡ found_in old.runner.tried
+      new.runner.archive →
       kept ≡ listed found
   gives found kept journal (opened_again calls now some least opens) up is e =
-      let runs = runs_up new.recorder.archive pair journal is up in
-      found_is new.recorder.archive pair machine.journal old.recorder.tried calls journal kept
+      let runs = runs_up new.runner.archive pair journal is up in
+      found_is new.runner.archive pair machine.journal old.runner.tried calls journal kept
       stands.tries opens
       runs.room runs.generation ∙ ap listed (sym e)
   gives found kept journal (cut_off calls arms failures meets) up is e =
@@ -344,10 +344,10 @@ module _ {D : Type 0} {disk : Ghosts D} (old new : Coordinator D disk) (pair : �
       reopen_is_cut calls arms failures meets
 
   pub reopen_does : (found : Option Kept) → (is_stopped (disk.arms (device_of new)) ≡ false →
-      (new.recorder.tried ≡ None) × (found ≡ found_in old.recorder.tried new.recorder.archive)) →
+      (new.runner.tried ≡ None) × (found ≡ found_in old.runner.tried new.runner.archive)) →
       (is_stopped (disk.arms (device_of new)) ≡ true →
-      (new.recorder.tried ≡ old.recorder.tried) × (found ≡ None)) →
-      Moves new.recorder.archive pair
+      (new.runner.tried ≡ old.runner.tried) × (found ≡ None)) →
+      Moves new.runner.archive pair
       (λ journal. (kept : List Kept) × Reopened pair machine.journal journal kept) Up →
       Does old new pair (λ next call. Reopens (coordinator_kind pair) machine next call [])
       (listed found) []
@@ -362,10 +362,10 @@ module _ {D : Type 0} {disk : Ghosts D} (old new : Coordinator D disk) (pair : �
       (gives_none found again.0 journal again.1 down (stays stopped).1)
       (tries_cut again.0 journal again.1 down (stays stopped).0)
 
-  pub not_reopened : new.recorder.tried ≡ old.recorder.tried →
+  pub not_reopened : new.runner.tried ≡ old.runner.tried →
       (met left : Status) (reason : Refusal) →
       left ≢ Down → (machine.journal.status ≢ Up → left ≢ Up) → IsRefusedSo met left reason →
-      Moves new.recorder.archive pair (NotReopened machine.journal met left) left →
+      Moves new.runner.archive pair (NotReopened machine.journal met left) left →
       Does old new pair (ReopensNot pair machine reason) [] []
   not_reopened same_tried met left reason up stops so
       (moves_on journal not_opened is_status is) =

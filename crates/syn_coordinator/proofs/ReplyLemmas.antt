@@ -16,8 +16,8 @@ use Rattle.syn_model.specs.Refusal.{Memory}
 use Rattle.syn_refusal.specs.Refusals.{cause_of}
 use Rattle.syn_coordinator.specs.Coordinators.{Does, Stands, in_report, report_shown, runs}
 use Rattle.syn_coordinator.specs.Coordinators as does
-use Rattle.syn_coordinator.specs.Recorders.{written}
-use Rattle.syn_coordinator.specs.declared.recorder.Recorder.{Recorder}
+use Rattle.syn_coordinator.specs.PlanRunners.{written}
+use Rattle.syn_coordinator.specs.declared.plan_runner.PlanRunner.{PlanRunner}
 use Rattle.syn_coordinator.specs.Machines.{IsMachine}
 use Rattle.syn_coordinator.specs.declared.coordinator.Coordinator.{Coordinator}
 use Rattle.syn_coordinator.specs.Tries.{Tries}
@@ -69,7 +69,7 @@ module _ (pair : ℕ) (machine : CoordinatorMachine) (running : Running) (taken 
 
   module _ {D : Type 0} {disk : Ghosts D} (new : Coordinator D disk) (session next : Session)
       (kept : List Kept) (asks : Asks)
-      (on : TakesOn new.recorder.archive pair machine.journal running taken session kept asks)
+      (on : TakesOn new.runner.archive pair machine.journal running taken session kept asks)
       (quiet : machine.journal.writing ≡ None)
       (asked : (side : Which) →
       IsAskedOn session.number (peer_of session side) (peer_of next side) (asks_of asks side))
@@ -112,7 +112,7 @@ module _ (pair : ℕ) (machine : CoordinatorMachine) (running : Running) (taken 
         on.may.fresh on.now.value on.may.may on.may.some
 
     -- it asks both sides for what comes next
-    pub asked_so : new.recorder.tried ≡ None → new.running ≡ Some next → (messages : List Message) →
+    pub asked_so : new.runner.tried ≡ None → new.running ≡ Some next → (messages : List Message) →
         messages ≡ messages_asked session asks →
         Answered new pair machine running taken kept messages
     asked_so untried runs_it messages sent =
@@ -130,7 +130,7 @@ module _ (pair : ℕ) (machine : CoordinatorMachine) (running : Running) (taken 
               (subst (λ r. IsSession on.now.value next (says r)) (sym same) is_session);
           quiet = λ _. on.quiet quiet;
           untried = λ _. untried;
-          tries = tries_none new.recorder.tried on.now untried (on.quiet quiet);
+          tries = tries_none new.runner.tried on.now untried (on.quiet quiet);
         }) refl
         (ap (λ r. sent_now r (asks_of asks Left) (asks_of asks Right)) same
         ∙ (sym (sends_that heard session next asks on.heard asked number preferred on.may.may_wait
@@ -147,8 +147,8 @@ module _ (pair : ℕ) (machine : CoordinatorMachine) (running : Running) (taken 
 
     -- memory is refused as it asks
     asks_none : (session : Session) (kept : List Kept) (asks : Asks) →
-        machine.journal.writing ≡ None → new.recorder.tried ≡ None →
-        TakesOn new.recorder.archive pair machine.journal running taken session kept asks →
+        machine.journal.writing ≡ None → new.runner.tried ≡ None →
+        TakesOn new.runner.archive pair machine.journal running taken session kept asks →
         ((now : Running) → Tells session now →
         report_shown new ≡ Some (report_of now (Some Memory))) →
         Answered new pair machine running taken kept []
@@ -157,25 +157,25 @@ module _ (pair : ℕ) (machine : CoordinatorMachine) (running : Running) (taken 
         goes_on _ _ (model.ends on.after.plan on.walks.logged (walk_at on.now on.after) kept
         (Some Memory) on.walks.fault on.walks.has on.walks.goes (model.no_memory on.status))
         (no_session new pair on.now on.is is_over
-        (tries_none new.recorder.tried on.now untried (on.quiet quiet))) refl refl
+        (tries_none new.runner.tried on.now untried (on.quiet quiet))) refl refl
         (ap (λ r. report_of r (Some Memory) ∷ []) same
         ∙ report_is (reaching running taken on.after) (Some Memory) (told _ on.tells))
 
-    pub asks_no_more : (recorder : Recorder D disk) → new.recorder ≡ recorder →
-        machine.journal.writing ≡ None → recorder.tried ≡ None → (session : Session)
+    pub asks_no_more : (runner : PlanRunner D disk) → new.runner ≡ runner →
+        machine.journal.writing ≡ None → runner.tried ≡ None → (session : Session)
         (asks : Asks) (messages : List Message) → messages ≡ [] →
-        TakesOn recorder.archive pair machine.journal running taken session (written recorder)
+        TakesOn runner.archive pair machine.journal running taken session (written runner)
         asks → ((now : Running) → Tells session now →
         report_shown new ≡ Some (report_of now (Some Memory))) →
-        Answered new pair machine running taken (written new.recorder) messages
-    asks_no_more recorder same quiet untried session asks messages nothing on told =
-        subst (Answered new pair machine running taken (written new.recorder)) (sym nothing)
-        (asks_none session (written new.recorder) asks quiet (ap (λ r. r.tried) same ∙ untried)
-        (subst (λ (r : Recorder D disk). TakesOn r.archive pair machine.journal running taken
+        Answered new pair machine running taken (written new.runner) messages
+    asks_no_more runner same quiet untried session asks messages nothing on told =
+        subst (Answered new pair machine running taken (written new.runner)) (sym nothing)
+        (asks_none session (written new.runner) asks quiet (ap (λ r. r.tried) same ∙ untried)
+        (subst (λ (r : PlanRunner D disk). TakesOn r.archive pair machine.journal running taken
         session (written r) asks) (sym same) on) told)
 
     ends_now : (session : Session) (kept : List Kept) (ended : SessionEnd) →
-        TakesEnd new.recorder.archive new.recorder.tried pair machine.journal running taken session
+        TakesEnd new.runner.archive new.runner.tried pair machine.journal running taken session
         kept ended →
         ((now : Running) → Tells session now →
         report_shown new ≡ Some (report_of now (ended_by ended))) →
@@ -198,16 +198,16 @@ module _ (pair : ℕ) (machine : CoordinatorMachine) (running : Running) (taken 
         goes_down _ _ (model.stops after.plan walks.logged walk kept walks.fault walks.has
         walks.goes down) stopped down leaves refl tries
 
-    pub ends_so : (recorder : Recorder D disk) → new.recorder ≡ recorder → (session : Session)
+    pub ends_so : (runner : PlanRunner D disk) → new.runner ≡ runner → (session : Session)
         (ended : SessionEnd) (messages : List Message) → messages ≡ [] →
-        TakesEnd recorder.archive recorder.tried pair machine.journal running taken session
-        (written recorder) ended → ((now : Running) → Tells session now →
+        TakesEnd runner.archive runner.tried pair machine.journal running taken session
+        (written runner) ended → ((now : Running) → Tells session now →
         report_shown new ≡ Some (report_of now (ended_by ended))) →
-        Answered new pair machine running taken (written new.recorder) messages
-    ends_so recorder same session ended messages nothing takes_end told =
-        subst (Answered new pair machine running taken (written new.recorder)) (sym nothing)
-        (ends_now session (written new.recorder) ended
-        (subst (λ (r : Recorder D disk). TakesEnd r.archive r.tried pair machine.journal running
+        Answered new pair machine running taken (written new.runner) messages
+    ends_so runner same session ended messages nothing takes_end told =
+        subst (Answered new pair machine running taken (written new.runner)) (sym nothing)
+        (ends_now session (written new.runner) ended
+        (subst (λ (r : PlanRunner D disk). TakesEnd r.archive r.tried pair machine.journal running
         taken session (written r) ended) (sym same) takes_end) told)
 
 -- ---- an answer that comes
@@ -235,8 +235,8 @@ module _ {D : Type 0} {disk : Ghosts D} (old new : Coordinator D disk) (pair : �
       (takes running request now call expected took) stopped down leaves same_kept tries
 
   -- it was not
-  pub ignored_does : Stands old pair machine → new.recorder.archive ≡ old.recorder.archive →
-      new.running ≡ old.running → new.recorder.tried ≡ old.recorder.tried →
+  pub ignored_does : Stands old pair machine → new.runner.archive ≡ old.runner.archive →
+      new.running ≡ old.running → new.runner.tried ≡ old.runner.tried →
       ((running : Running) (request : Request) →
       IsExpected machine from session number running request → ⊥) → (kept : List Kept)
       (messages : List Message) → kept ≡ [] → messages ≡ [] →

@@ -17,7 +17,7 @@ use Rattle.syn_model.specs.Archive.{Kept}
 use Rattle.syn_model.specs.Plan.{PlanIsOrderly}
 use Rattle.syn_propagate.specs.Carrying.{IsFresh}
 use Rattle.syn_propagate.specs.Transfers.{spec_of}
-use Rattle.syn_session.specs.declared.plan_progress.Carried.{Carried}
+use Rattle.syn_session.specs.declared.plan_progress.Carrying.{Carrying}
 use Rattle.syn_coordinator.proofs.FreshLemmas.{is_fresh}
 use Rattle.syn_recon.specs.Items.{items_of}
 use Rattle.syn_refusal.specs.Refusals.{cause_of}
@@ -30,7 +30,7 @@ use Rattle.syn_coordinator.specs.declared.due.RecordOutcome.{RecordOutcome}
 use Rattle.syn_coordinator.specs.declared.due.RecordOutcome.TheVariants as due
 use Rattle.syn_coordinator.specs.declared.session_end.SessionEnd.{SessionEnd}
 use Rattle.syn_coordinator.specs.declared.session_end.SessionEnd.TheVariants.{Early}
-use Rattle.syn_coordinator.specs.declared.tried.Unconfirmed.{Unconfirmed}
+use Rattle.syn_coordinator.specs.declared.tried.TriedRecord.{TriedRecord}
 use Rattle.syn_coordinator.proofs.TriedLemmas.{tries_none}
 use Rattle.syn_coordinator.specs.inner.Advancing.{Advanced, EndsAs, ended, kept_by, kept_it}
 use Rattle.syn_coordinator.specs.inner.Advancing.{refused_it, stopped}
@@ -52,7 +52,7 @@ at_walk before progress left right is planned at =
     ap (λ p. slice_get (option_map_or (λ plan. plan) p []) before.cursor) is.plan
     ∙ (ap (slice_get (plan_in progress left right)) is.cursor ∙ at)
 
-module _ {D : Type 0} {disk : Ghosts D} (new : Archive D disk) (tried : Option Unconfirmed)
+module _ {D : Type 0} {disk : Ghosts D} (new : Archive D disk) (tried : Option TriedRecord)
     (pair : ℕ)
     (taken : Exchange) (journal : Journal) (before : Reached) where
   -- lack of memory ends it where it is
@@ -81,14 +81,14 @@ module _ {D : Type 0} {disk : Ghosts D} (new : Archive D disk) (tried : Option U
           (subst (λ n. IsDue n planned taken what) (sym is.cursor) is_due) due settles quiet tries
 
       -- the same, where nothing was remembered before
-      from_none : (was : Option Unconfirmed) → was ≡ None → (due : RecordOutcome) →
+      from_none : (was : Option TriedRecord) → was ≡ None → (due : RecordOutcome) →
           Settles new pair journal what due → TriesBy new what was tried due →
           Advanced new tried pair (plan_at before) taken (walk_at journal before) planned what due
       from_none was none due settles tries =
           became due settles (subst (λ o. TriesBy new what o tried due) none tries)
 
       -- the machine is down
-      pub is_cut_off : (was : Option Unconfirmed) → was ≡ None → (due : RecordOutcome) →
+      pub is_cut_off : (was : Option TriedRecord) → was ≡ None → (due : RecordOutcome) →
           Settles new pair journal what due → TriesBy new what was tried due →
           is_stopped (disk.arms (disk_of new)) ≡ true → (progress : PlanProgress)
           (how : SessionEnd) →
@@ -166,7 +166,7 @@ module _ {D : Type 0} {disk : Ghosts D} (new : Archive D disk) (tried : Option U
               by (stopped became later advances down cut leaves tries) =
                   absurd (false≢true (sym goes ∙ cut))
 
-      pub is_ended : (was : Option Unconfirmed) → was ≡ None → (it : RecordOutcome)
+      pub is_ended : (was : Option TriedRecord) → was ≡ None → (it : RecordOutcome)
           (how : SessionEnd) →
           EndsAs it how → Settles new pair journal what it → TriesBy new what was tried it →
           Ends new tried pair taken journal before [] progress left right how
@@ -181,11 +181,11 @@ pub fresh_for : PlanIsOrderly → (archive : model.Archive) (progress : PlanProg
     (left right : Found)
     (reached : Reached) (is : IsPlanProgress progress left right reached) (planned : Planned)
     (at : slice_get (plan_in progress left right) progress.cursor ≡ Some planned)
-    (carried : Carried) →
-    IsCarriedFor archive carried planned progress.cursor → (all : List Exchange) →
+    (carrying : Carrying) →
+    IsCarriedFor archive carrying planned progress.cursor → (all : List Exchange) →
     AreAskedBefore (plan_in progress left right) progress.cursor all →
-    IsFresh (spec_of carried.transfer) all
-fresh_for orderly archive progress left right reached is planned at carried carries all asked =
+    IsFresh (spec_of carrying.transfer) all
+fresh_for orderly archive progress left right reached is planned at carrying carries all asked =
     is_fresh (plan_in progress left right) (named_once is.made.0 left right is.made.1
     (items_of progress.items.items) is.made.2 orderly) progress.cursor planned at
-    (spec_of carried.transfer) carries.spec.item_is carries.spec.path_is all asked
+    (spec_of carrying.transfer) carries.spec.item_is carries.spec.path_is all asked

@@ -13,7 +13,7 @@ use Rattle.syn_coordinator.specs.Tries.{Tries}
 use Rattle.syn_coordinator.specs.declared.session_end.SessionEnd.TheVariants.{Early}
 use Rattle.syn_session.specs.declared.session.Asks.{Asks}
 use Rattle.syn_session.specs.declared.session.Session.{Session}
-use Rattle.syn_coordinator.specs.declared.tried.Unconfirmed.{Unconfirmed}
+use Rattle.syn_coordinator.specs.declared.tried.TriedRecord.{TriedRecord}
 use Rattle.syn_session.specs.Hearing.{EndsHearing, HasHeard, MayGoOn, at_once, afterwards}
 use Rattle.syn_session.specs.Stages.{reached_by}
 use Rattle.syn_coordinator.specs.inner.Taking.{TakesEnd, TakesOn, Walks, reaching}
@@ -56,7 +56,7 @@ module _ {D : Type 0} {disk : Ghosts D} (new : Archive D disk) (pair : ℕ) (jou
         may = may journal.value;
       })
 
-  pub hears_end : (tried : Option Unconfirmed) → Tries tried journal → (kept : List Kept) →
+  pub hears_end : (tried : Option TriedRecord) → Tries tried journal → (kept : List Kept) →
       kept ≡ [] → (why : Refusal) → EndsHearing session running taken why →
       TakesEnd new tried pair journal running taken session kept (Early why)
   hears_end tried tries kept nothing why (at_once fault tells) =

@@ -14,7 +14,7 @@ use Rattle.syn_coordinator.specs.Coordinators.{runs, goes_on}
 use Rattle.syn_coordinator.specs.Machines.{IsMachine}
 use Rattle.syn_coordinator.specs.Tries.{Tries}
 use Rattle.syn_coordinator.specs.declared.coordinator.Coordinator.{Coordinator}
-use Rattle.syn_coordinator.specs.declared.recorder.Recorder.{Recorder}
+use Rattle.syn_coordinator.specs.declared.plan_runner.PlanRunner.{PlanRunner}
 use Rattle.syn_session.specs.Sessions.{IsRunning, IsSession, Tells, is_worn_now, messages_now}
 use Rattle.syn_session.specs.Sessions.{resent_once, IsStage, TellsOf, is_worn_out}
 use Rattle.syn_session.specs.declared.session.Session.{Session as Ran, Session}
@@ -62,7 +62,7 @@ session_of archive session (Some now) is = (now, refl, is)
 
 module _ {D : Type 0} {disk : Ghosts D} (old new : Coordinator D disk) (pair : ℕ)
     (machine : CoordinatorMachine) (stands : Stands old pair machine)
-    (same : new.recorder ≡ old.recorder) (messages : List Message) where
+    (same : new.runner ≡ old.runner) (messages : List Message) where
   -- its archive stays
   stays : (running : Option Running) → IsRunning machine.journal.value new.running running →
       (is_some running ≡ true → is_some machine.running ≡ true) →
@@ -70,13 +70,14 @@ module _ {D : Type 0} {disk : Ghosts D} (old new : Coordinator D disk) (pair : �
   stays running is before =
       record {
         journal =
-            subst (λ (r : Recorder D disk). IsMachine r.archive pair machine.journal) (sym same)
+            subst (λ (r : PlanRunner D disk). IsMachine r.archive pair machine.journal) (sym same)
             stands.journal;
         running = is;
         quiet = λ some. stands.quiet (before some);
         untried = λ some. ap (λ r. r.tried) same ∙ stands.untried (before some);
         tries =
-            subst (λ (r : Recorder D disk). Tries r.tried machine.journal) (sym same) stands.tries;
+            subst (λ (r : PlanRunner D disk). Tries r.tried machine.journal) (sym same)
+            stands.tries;
       }
 
   ended_by : (was is : Bool) → runs old ≡ was → runs new ≡ is →

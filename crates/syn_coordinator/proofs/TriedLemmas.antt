@@ -14,7 +14,7 @@ use Rattle.syn_headline.specs.Machine.{compacted, has_room, idle, not_compacted,
 use Rattle.syn_model.specs.Archive.{Kept}
 use Rattle.syn_coordinator.specs.Machines.{Journal}
 use Rattle.syn_coordinator.specs.Tries.{HoldsTried, IsShown, Tries}
-use Rattle.syn_coordinator.specs.declared.tried.Unconfirmed.{Unconfirmed}
+use Rattle.syn_coordinator.specs.declared.tried.TriedRecord.{TriedRecord}
 
 -- ---- what a journal writes
 
@@ -81,20 +81,20 @@ room_left archive = by (gate_of archive.journaled.journal)
     by : (gate : ℕ) → 4194304 - gate - 6 ≡ 4194304 - 1 - gate - 5
     by gate = omega arith
 
-pub tries_none : (tried : Option Unconfirmed) (journal : Journal) → tried ≡ None →
+pub tries_none : (tried : Option TriedRecord) (journal : Journal) → tried ≡ None →
     journal.writing ≡ None → Tries tried journal
 tries_none None journal none quiet = quiet
 tries_none (Some tried) journal none quiet = absurd (none-some _ (sym none))
 
 -- a machine that is up has nothing that was tried
-pub untried_up : (tried : Option Unconfirmed) (journal : Journal) → Tries tried journal →
+pub untried_up : (tried : Option TriedRecord) (journal : Journal) → Tries tried journal →
     journal.status ≡ Up → tried ≡ None
 untried_up None journal tries up = refl
 untried_up (Some tried) journal tries up = absurd (tries.stopped up)
 
 -- what was tried is remembered
 pub tries_held : {D : Type 0} {disk : Ghosts D} (archive : Archive D disk) (what : Kept)
-    (tried : Option Unconfirmed) (journal : Journal) →
+    (tried : Option TriedRecord) (journal : Journal) →
     HoldsTried archive what tried → journal.status ≢ Up → IsShown archive journal →
     (journal.writing ≡ Some what) × (kept_size what ≤ journal.room) → Tries tried journal
 tries_held archive what None journal held stopped shown failed = absurd held
@@ -108,7 +108,7 @@ tries_held archive what (Some tried) journal held stopped shown failed =
     }
 
 -- device calls that write nothing change nothing of it
-pub tries_still : (tried : Option Unconfirmed) (machine : Journal) (status : Status) (arms : Arms)
+pub tries_still : (tried : Option TriedRecord) (machine : Journal) (status : Status) (arms : Arms)
     (failed : ℕ) → (machine.status ≢ Up → status ≢ Up) → Tries tried machine →
     Tries tried (after_device machine status arms failed)
 tries_still None machine status arms failed stops tries = tries

@@ -22,7 +22,7 @@ use Rattle.syn_session.specs.declared.plan_progress.PlanProgress.{PlanProgress}
 use Rattle.syn_coordinator.specs.declared.due.RecordOutcome.{RecordOutcome}
 use Rattle.syn_coordinator.specs.declared.due.RecordOutcome.TheVariants as due
 use Rattle.syn_coordinator.specs.declared.session_end.SessionEnd.{SessionEnd}
-use Rattle.syn_coordinator.specs.declared.tried.Unconfirmed.{Unconfirmed}
+use Rattle.syn_coordinator.specs.declared.tried.TriedRecord.{TriedRecord}
 use Rattle.syn_coordinator.specs.inner.Advancing.{Advanced, EndsAs, Remembers, ended, kept_by}
 use Rattle.syn_coordinator.specs.inner.Advancing.{kept_it, refused_it, stopped}
 use Rattle.syn_session.specs.Passing.{past_at, refused_at}
@@ -99,7 +99,7 @@ module _ (pair : ℕ) (taken : Exchange) where
             course_is = comes.course_is;
           }
 
-      pub ends_after : (tried : Option Unconfirmed) (how : SessionEnd) →
+      pub ends_after : (tried : Option TriedRecord) (how : SessionEnd) →
           Ends new tried pair taken middle between more progress left right how →
           Ends new tried pair taken old before (kept ++ more) progress left right how
       ends_after tried how (ends walk after advances cursor refused has why is course_is tries) =
@@ -163,14 +163,14 @@ module _ (pair : ℕ) (taken : Exchange) where
 
     -- ---- what became of its record
 
-    module _ {D : Type 0} {disk : Ghosts D} (new : Archive D disk) (tried : Option Unconfirmed)
+    module _ {D : Type 0} {disk : Ghosts D} (new : Archive D disk) (tried : Option TriedRecord)
         (planned : Planned) (what : Kept) (progress : PlanProgress) (left right : Found) where
       -- where it ends the session nothing was kept, and it ends it in one way
       ends_one : (it : RecordOutcome) (how : SessionEnd) → EndsAs it how →
           (kept_by what it ≡ []) × ((other : SessionEnd) → EndsAs it other → other ≡ how)
       ends_one (due.Ends why) how is = (refl, λ other same. same ∙ sym is)
       ends_one due.Unsent how is = (refl, λ other same. same ∙ sym is)
-      ends_one due.Unconfirmed how is = (refl, λ other same. same ∙ sym is)
+      ends_one due.Tried how is = (refl, λ other same. same ∙ sym is)
       ends_one due.Recorded how is = absurd is
       ends_one (due.Refused why) how is = absurd is
 

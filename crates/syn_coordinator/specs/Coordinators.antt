@@ -5,7 +5,7 @@ use Rattle.std.specs.Prelude.{false, not, ◌&&◌, List, [], ◌∷◌, Option,
 use Rattle.std.specs.Prelude.{option_map, is_some, if◌then◌else◌}
 use Rattle.syn_archive.specs.Archive.{IsHalted, disk_of}
 use Rattle.syn_archive.specs.declared.archive.Archive.{Archive}
-use Rattle.syn_coordinator.specs.Recorders as of
+use Rattle.syn_coordinator.specs.PlanRunners as of
 use Rattle.syn_coordinator.specs.declared.coordinator.Coordinator.{Coordinator}
 use Rattle.syn_disk.specs.Arms.{is_stopped}
 use Rattle.syn_disk.specs.declared.disk.Disk.{Ghosts}
@@ -17,7 +17,7 @@ use Rattle.syn_headline.specs.Network.{Message, Which}
 use Rattle.syn_headline.specs.Report.{Report}
 use Rattle.syn_coordinator.specs.Machines.{IsMachine, LeavesMachine}
 use Rattle.syn_coordinator.specs.Tries.{Tries}
-use Rattle.syn_coordinator.specs.declared.tried.Unconfirmed.{Unconfirmed}
+use Rattle.syn_coordinator.specs.declared.tried.TriedRecord.{TriedRecord}
 use Rattle.syn_model.specs.Archive.{Kept}
 use Rattle.syn_model.specs.Refusal.{Cause, Refusal}
 use Rattle.syn_model.specs.Refusal as why
@@ -27,10 +27,10 @@ use Rattle.syn_session.specs.SettledItems.{Settled, nothing_settled, settled_in}
 
 module _ {D : Type 0} {disk : Ghosts D} (coordinator : Coordinator D disk) where
   abbrev pub archive_of : Archive D disk
-  archive_of = coordinator.recorder.archive
+  archive_of = coordinator.runner.archive
 
   abbrev pub device_of : D
-  device_of = disk_of coordinator.recorder.archive
+  device_of = disk_of coordinator.runner.archive
 
   -- the report of the session that ended last, since the last start
   abbrev pub report_shown : Option Report
@@ -38,14 +38,14 @@ module _ {D : Type 0} {disk : Ghosts D} (coordinator : Coordinator D disk) where
 
   -- what the last call that could write wrote into the archive, and what was answered 9 in it
   abbrev pub written : List Kept
-  written = of.written coordinator.recorder
+  written = of.written coordinator.runner
 
-  abbrev pub broken : Option Kept
-  broken = of.broken coordinator.recorder
+  abbrev pub in_doubt : Option Kept
+  in_doubt = of.in_doubt coordinator.runner
 
   -- the record that was tried last and not kept, until the archive is opened again
-  abbrev pub tried_shown : Option Unconfirmed
-  tried_shown = coordinator.recorder.tried
+  abbrev pub tried_shown : Option TriedRecord
+  tried_shown = coordinator.runner.tried
 
   -- a session runs
   abbrev pub runs : Bool
@@ -53,7 +53,7 @@ module _ {D : Type 0} {disk : Ghosts D} (coordinator : Coordinator D disk) where
 
   -- it is this machine of the pair
   pub record Stands (pair : ℕ) (machine : CoordinatorMachine) : Type 0 where
-    pub journal : IsMachine coordinator.recorder.archive pair machine.journal
+    pub journal : IsMachine coordinator.runner.archive pair machine.journal
     pub running : IsRunning machine.journal.value coordinator.running machine.running
     -- no record was cut off under a session that still runs
     pub quiet : is_some machine.running ≡ true → machine.journal.writing ≡ None
@@ -103,15 +103,15 @@ pub data Does {D : Type 0} {disk : Ghosts D} (old new : Coordinator D disk) (pai
 module _ {D : Type 0} {disk : Ghosts D} (old new : Coordinator D disk) where
   -- a device call failed, or the machine stopped
   abbrev pub FailsOrStops : Type 0
-  FailsOrStops = of.FailsOrStops old.recorder new.recorder
+  FailsOrStops = of.FailsOrStops old.runner new.runner
 
   -- a record was sent to the disk, and is told as answered 9
   abbrev pub BreaksOff : Type 0
-  BreaksOff = of.BreaksOff old.recorder new.recorder
+  BreaksOff = of.BreaksOff old.runner new.runner
 
   -- nothing is told as answered 9: no device call failed, or none of a record
   abbrev pub TellsNone : Type 0
-  TellsNone = of.TellsNone old.recorder new.recorder
+  TellsNone = of.TellsNone old.runner new.runner
 
   -- where the archive of a machine that was up is halted now, a device call failed, unless the
   -- machine stopped
@@ -126,7 +126,7 @@ pub record KeepsReadings {D : Type 0} {disk : Ghosts D} (old new : Coordinator D
     : Type 0 where
   pub report : report_shown new ≡ report_shown old
   pub written_is : written new ≡ written old
-  pub broken_is : broken new ≡ broken old
+  pub in_doubt_is : in_doubt new ≡ in_doubt old
   pub tried_is : tried_shown new ≡ tried_shown old
   pub runs_still : runs new ≡ runs old
 

@@ -1,6 +1,6 @@
 pub mod Coordinators
 pub mod Openings
-pub mod Recorders
+pub mod PlanRunners
 pub mod Machines
 pub mod Tries
 pub mod Steps

@@ -9,14 +9,14 @@ use Rattle.syn_headline.specs.MachineSteps.{OpensDown}
 use Rattle.syn_coordinator.specs.Tries.{Tries}
 use Rattle.syn_archive.specs.Keepings.{of_archive}
 use Rattle.syn_journal.specs.Machines.{Rests}
-use Rattle.syn_coordinator.specs.declared.tried.Unconfirmed.{Unconfirmed}
+use Rattle.syn_coordinator.specs.declared.tried.TriedRecord.{TriedRecord}
 use Rattle.syn_model.specs.Archive.{Kept}
 use Rattle.syn_model.specs.Path.{Bytes}
 use Rattle.syn_model.specs.Refusal.{Refusal}
 
 -- The machine is down and rests on the device; it runs no session, and this was tried last
 pub record RestsWith {D : Type 0} (arms : D → DiskArms) (may_leave : D → Bytes → Type 0)
-    (pair : ℕ) (device : D) (tried : Option Unconfirmed)
+    (pair : ℕ) (device : D) (tried : Option TriedRecord)
     (machine : CoordinatorMachine) : Type 0 where
   pub rests : Rests arms may_leave (of_archive pair) device machine.journal
   pub idle : machine.running ≡ None
@@ -31,7 +31,7 @@ pub record OpensAs {D : Type 0} {disk : Ghosts D} (coordinator : Coordinator D d
 
 -- the machine is still down, and was refused so
 pub record RestsStill {D : Type 0} (arms : D → DiskArms) (may_leave : D → Bytes → Type 0)
-    (pair : ℕ) (device : D) (tried : Option Unconfirmed) (machine : CoordinatorMachine)
+    (pair : ℕ) (device : D) (tried : Option TriedRecord) (machine : CoordinatorMachine)
     (reason : Refusal) : Type 0 where
   pub next : CoordinatorMachine
   pub opens : OpensDown (coordinator_kind pair) machine next no_call (reason ∷ [])

@@ -12,7 +12,7 @@ use Rattle.syn_coordinator.specs.declared.due.RecordOutcome.{RecordOutcome}
 use Rattle.syn_coordinator.specs.declared.due.RecordOutcome.TheVariants.{Recorded, Refused}
 use Rattle.syn_coordinator.specs.declared.due.RecordOutcome.TheVariants.{Ends, Unsent}
 use Rattle.syn_coordinator.specs.declared.due.RecordOutcome.TheVariants as due
-use Rattle.syn_coordinator.specs.declared.tried.Unconfirmed.{Unconfirmed}
+use Rattle.syn_coordinator.specs.declared.tried.TriedRecord.{TriedRecord}
 use Rattle.syn_model.specs.Archive.{CanKeep, Kept, kept_refusal}
 use Rattle.syn_model.specs.Limits.{greatest}
 use Rattle.syn_refusal.specs.Refusals.{cause_of}
@@ -22,7 +22,7 @@ use Rattle.syn_refusal.specs.declared.refusal.Refusal.TheVariants as refusal
 -- the count of failed device calls grows exactly where the session ends for the device
 abbrev pub CountsFailures : RecordOutcome → ℕ → ℕ → Type 0
 CountsFailures Unsent old new = old < new
-CountsFailures due.Unconfirmed old new = old < new
+CountsFailures due.Tried old new = old < new
 CountsFailures _ old new = new ≡ old
 
 -- or its machine was stopped right after a checkpoint, and nothing failed
@@ -36,9 +36,9 @@ pub record IsAsItWas {D : Type 0} {disk : Ghosts D} (old new : Archive D disk) :
   pub journal : journal_of new ≡ journal_of old
 
 -- a record that was due is remembered where it was sent and not kept, and else nothing changes
-abbrev pub TriesBy : {D : Type 0} → {disk : Ghosts D} → Archive D disk → Kept → Option Unconfirmed →
-    Option Unconfirmed → RecordOutcome → Type 0
-TriesBy archive kept old new due.Unconfirmed = HoldsTried archive kept new
+abbrev pub TriesBy : {D : Type 0} → {disk : Ghosts D} → Archive D disk → Kept → Option TriedRecord →
+    Option TriedRecord → RecordOutcome → Type 0
+TriesBy archive kept old new due.Tried = HoldsTried archive kept new
 TriesBy archive kept old new _ = new ≡ old
 
 -- the machine runs, and its archive does not refuse the record
@@ -76,7 +76,7 @@ pub data Settles {D : Type 0} {disk : Ghosts D} (new : Archive D disk) (pair : �
   record_breaks : (made : Bool) (between : Journal) → IsReady machine kept →
       MakesRoom pair machine kept made between →
       has_room (archive_layout pair) between kept ≡ true → KeepsSo new pair between kept [] Halted →
-      Settles new pair machine kept due.Unconfirmed
+      Settles new pair machine kept due.Tried
   no_room_left : (between : Journal) → IsReady machine kept →
       MakesRoom pair machine kept true between →
       has_room (archive_layout pair) between kept ≡ false → IsMachine new pair between →

@@ -19,9 +19,9 @@ ghost use Rattle.syn_session.specs.Sessions.{IsSession, Tells, begin_messages, b
 ghost use Rattle.syn_session.specs.declared.session.Session.{Session as Ran};
 ghost use Rattle.syn_image.specs.Archives.{kept_of};
 
-use crate::recorder::Recorder;
+use crate::plan_runner::PlanRunner;
 use crate::session_end::SessionEnd;
-use crate::{StartError, Unconfirmed};
+use crate::{StartError, TriedRecord};
 use std::alloc::{AllocError, Global};
 use syn_archive::Archive;
 use syn_disk::Disk;
@@ -39,7 +39,7 @@ mod settled;
 /// both last agreed on.
 #[derive(Drop)]
 pub struct Coordinator<D: Disk> {
-    recorder: Recorder<D>,
+    runner: PlanRunner<D>,
     running: Option<Session>,
     report: Option<Report>,
 }
@@ -47,9 +47,8 @@ pub struct Coordinator<D: Disk> {
 impl<D: Disk> Coordinator<D> {
     ghost use Rattle.syn_coordinator.specs.Coordinators.{Does, HaltsByFailure, Stands, all_causes};
     ghost use Rattle.syn_coordinator.specs.Coordinators.{archive_of};
-    ghost use Rattle.syn_coordinator.specs.Coordinators.{broken, device_of, refusals_of};
+    ghost use Rattle.syn_coordinator.specs.Coordinators.{in_doubt, device_of, refusals_of};
     ghost use Rattle.syn_coordinator.specs.Coordinators.{is_waiting, report_shown, runs};
-    ghost use Rattle.syn_coordinator.specs.Coordinators.{items_planned};
     ghost use Rattle.syn_coordinator.specs.Coordinators.{tried_shown, written};
 
     /// A coordinator over the archive, with no session. It takes no memory.
@@ -60,11 +59,11 @@ impl<D: Disk> Coordinator<D> {
             → journal.writing ≡ None
             → Stands result pair (record { journal = journal; running = None }) }
         ensures report { report_shown result ≡ None }
-        ensures kept { (written result ≡ []) × (broken result ≡ None) }
+        ensures kept { (written result ≡ []) × (in_doubt result ≡ None) }
         ensures tried { tried_shown result ≡ None }
     {
         Coordinator {
-            recorder: Recorder::new(alloc, archive),
+            runner: PlanRunner::new(alloc, archive),
             running: None,
             report: None,
         }
@@ -74,14 +73,14 @@ impl<D: Disk> Coordinator<D> {
     pub fn archive(&self) -> &Archive<D>
         ensures { result.now ≡ archive_of self.now }
     {
-        &self.recorder.archive
+        &self.runner.archive
     }
 
     /// Whether its machine has stopped, so that no device call is made any more.
     pub fn is_cut(&self) -> bool
         ensures { result ≡ is_stopped (D.Disk.arms (device_of self.now)) }
     {
-        self.recorder.archive.is_cut()
+        self.runner.archive.is_cut()
     }
 
     /// The archive. A session that runs is given up.
@@ -94,14 +93,14 @@ impl<D: Disk> Coordinator<D> {
     }
 
     /// The archive, and what was tried and not kept. A session that runs is given up.
-    pub fn into_parts(self) -> (Archive<D>, Option<Unconfirmed>)
+    pub fn into_parts(self) -> (Archive<D>, Option<TriedRecord>)
         ensures archive { result.0 ≡ archive_of self }
         ensures tried { result.1 ≡ tried_shown self }
     {
         // By calls, or the prover would look here at all that each holds.
         drop(self.running);
         drop(self.report);
-        self.recorder.into_parts()
+        self.runner.into_parts()
     }
 
     /// Whether a session runs.
@@ -122,15 +121,6 @@ impl<D: Disk> Coordinator<D> {
         }
     }
 
-    /// How many items the plan of the session that runs has; none before the plan is made, and
-    /// where no session runs.
-    pub fn planned(&self) -> Option<usize>
-        ensures { (pair : ℕ) (machine : CoordinatorMachine) → Stands self.now pair machine
-            → result ≡ items_planned machine.running }
-    {
-        self.running.as_ref()?.planned()
-    }
-
     /// What the session that ended last reported; none before the first ends, and from the start of
     /// the next one on.
     pub fn report(&self) -> Option<&Report>
@@ -145,17 +135,17 @@ impl<D: Disk> Coordinator<D> {
     /// changes neither answer. A checkpoint that failed before a record sent none.
     pub fn kept(&self) -> (&[Kept], Option<&Kept>)
         ensures written { map kept_of result.0.now ≡ written self.now }
-        ensures broken { option_map (λ kept. kept_of kept.now) result.1 ≡ broken self.now }
+        ensures in_doubt { option_map (λ kept. kept_of kept.now) result.1 ≡ in_doubt self.now }
     {
-        self.recorder.kept()
+        self.runner.kept()
     }
 
     /// The record that was being written as a device call failed or the machine stopped, until the
     /// archive is opened again.
-    pub fn tried(&self) -> Option<&Unconfirmed>
+    pub fn tried(&self) -> Option<&TriedRecord>
         ensures { option_map (λ tried. tried.now) result ≡ tried_shown self.now }
     {
-        self.recorder.tried()
+        self.runner.tried()
     }
 
     /// Starts a session: its number is kept in the archive, and both sides are to begin it. It
@@ -200,18 +190,18 @@ impl<D: Disk> Coordinator<D> {
         // What `report` and `kept` answer then.
         ensures report { MatchResult result (λ _. report_shown self.new ≡ None)
             (λ _. report_shown self.new ≡ report_shown self.old) }
-        ensures whole { OnOk result (broken self.new ≡ None) }
+        ensures whole { OnOk result (in_doubt self.new ≡ None) }
         ensures breaks { result ≡ Err StartError.Device → (written self.new ≡ [])
-            × (broken self.new ≡ Some (Begun (session_shown (archive_of self.old) + 1))) }
+            × (in_doubt self.new ≡ Some (Begun (session_shown (archive_of self.old) + 1))) }
         ensures stays { IfErr result (λ e. e ≢ StartError.Device
-            → (written self.new ≡ written self.old) × (broken self.new ≡ broken self.old)
+            → (written self.new ≡ written self.old) × (in_doubt self.new ≡ in_doubt self.old)
             × (tried_shown self.new ≡ tried_shown self.old)) }
     {
         self.check_start()?;
-        let archive = &self.recorder.archive;
+        let archive = &self.runner.archive;
         let number = archive.last_session() + 1;
         let (session, sends) = first_requests(alloc, number, archive.pair(), preference)?;
-        match self.recorder.keep_session(alloc, number) {
+        match self.runner.keep_session(alloc, number) {
             Ok(()) => {
                 self.run(session);
                 Ok(sends)
@@ -234,16 +224,16 @@ impl<D: Disk> Coordinator<D> {
         ensures up { OnOk result (¬ IsHalted (archive_of self.now)) }
         ensures fits { OnOk result (session_shown (archive_of self.now) + 1 < 2 ^ 64) }
     {
-        if self.recorder.archive.is_halted() {
+        if self.runner.archive.is_halted() {
             return Err(StartError::Halted);
         }
         if self.running.is_some() {
             return Err(StartError::Busy);
         }
-        if self.recorder.archive.last_session() == u64::MAX {
+        if self.runner.archive.last_session() == u64::MAX {
             return Err(StartError::Full);
         }
-        if self.recorder.archive.room() < SESSION_LENGTH {
+        if self.runner.archive.room() < SESSION_LENGTH {
             return Err(StartError::JournalFull);
         }
         Ok(())
@@ -251,7 +241,7 @@ impl<D: Disk> Coordinator<D> {
 
     /// Lets the session run, whose number was kept.
     fn run(&mut self, session: Session)
-        ensures recorder { self.new.recorder ≡ self.old.recorder }
+        ensures runner { self.new.runner ≡ self.old.runner }
         ensures running { self.new.running ≡ Some session }
         ensures report { self.new.report ≡ None }
     {
@@ -269,7 +259,8 @@ impl<D: Disk> Coordinator<D> {
         ensures archive { archive_of self.new ≡ archive_of self.old }
         ensures report { (runs self.old && not (runs self.new)) ≡ false
             → report_shown self.new ≡ report_shown self.old }
-        ensures kept { (written self.new ≡ written self.old) × (broken self.new ≡ broken self.old)
+        ensures kept { (written self.new ≡ written self.old) × (in_doubt self.new ≡ in_doubt
+            self.old)
             × (tried_shown self.new ≡ tried_shown self.old) }
     {
         let Some(session) = &mut self.running else {
@@ -291,7 +282,7 @@ impl<D: Disk> Coordinator<D> {
     /// takes no memory.
     fn end(&mut self, alloc: Global, ended: SessionEnd) -> Vec<Sending>
         ensures running { self.new.running ≡ None }
-        ensures recorder { self.new.recorder ≡ self.old.recorder }
+        ensures runner { self.new.runner ≡ self.old.runner }
         ensures report { (session : Ran) (running : Running) → self.old.running ≡ Some session
             → Tells session running
             → report_shown self.new ≡ Some (report_of running (ended_by ended)) }

@@ -36,7 +36,7 @@ pub enum RecordOutcome {
     Unsent,
     /// The session ends 9: the record was sent to the disk, and a device call failed or the machine
     /// was stopped before it was kept. The archive may have it when it is opened again.
-    Unconfirmed,
+    Tried,
 }
 
 /// Records in the archive what is due for an item; a directory that is recorded already is left as
@@ -51,10 +51,10 @@ pub enum RecordOutcome {
 pub fn keep_due<D: Disk>(
     alloc: Global,
     archive: &mut Archive<D>,
-    kept: &ItemRecord,
+    item_record: &ItemRecord,
 ) -> RecordOutcome
     ensures settles { (pair : ℕ) (machine : Journal) → IsMachine archive.old pair machine
-        → Settles archive.new pair machine (kept_for kept.now) result }
+        → Settles archive.new pair machine (kept_for item_record.now) result }
     ensures failures { CountsFailuresOrStops result
         (is_stopped (D.Disk.arms (disk_of archive.new)))
         (D.Disk.failures (disk_of archive.old)) (D.Disk.failures (disk_of archive.new)) }
@@ -63,17 +63,17 @@ pub fn keep_due<D: Disk>(
 
     // It ends 11 only where the archive is neither halted nor refuses the record.
     ensures memory { (pair : ℕ) (machine : Journal) → IsMachine archive.old pair machine
-        → result ≡ RecordOutcome.Ends Refusal.Memory → IsReady machine (kept_for kept.now) }
+        → result ≡ RecordOutcome.Ends Refusal.Memory → IsReady machine (kept_for item_record.now) }
     ensures pair { pair_of archive.new ≡ pair_of archive.old }
 {
-    if let Some(due) = record(alloc, archive, kept) {
-        return due;
+    if let Some(outcome) = record(alloc, archive, item_record) {
+        return outcome;
     }
-    if let Err(due) = make_room(alloc, archive) {
-        return due;
+    if let Err(outcome) = make_room(alloc, archive) {
+        return outcome;
     }
-    match record(alloc, archive, kept) {
-        Some(due) => due,
+    match record(alloc, archive, item_record) {
+        Some(outcome) => outcome,
         None => RecordOutcome::Ends(Refusal::JournalFull),
     }
 }
@@ -82,17 +82,17 @@ pub fn keep_due<D: Disk>(
 fn record<D: Disk>(
     alloc: Global,
     archive: &mut Archive<D>,
-    kept: &ItemRecord,
+    item_record: &ItemRecord,
 ) -> Option<RecordOutcome>
     ensures records { (pair : ℕ) (machine : Journal) → IsMachine archive.old pair machine
-        → Records archive.new pair machine (kept_for kept.now) result }
+        → Records archive.new pair machine (kept_for item_record.now) result }
     ensures failures { CountsFailuresIn result (D.Disk.failures (disk_of archive.old))
         (D.Disk.failures (disk_of archive.new)) }
-    ensures leaves { Leaves archive.old archive.new (kept_for kept.now) result }
+    ensures leaves { Leaves archive.old archive.new (kept_for item_record.now) result }
     ensures pair { pair_of archive.new ≡ pair_of archive.old }
 {
-    is_lawful(kept);
-    match kept {
+    is_lawful(item_record);
+    match item_record {
         ItemRecord::Record(path, marks) => outcome_of(archive.record(alloc, path, marks.as_ref())),
         ItemRecord::Dir(path) => outcome_of(archive.record_dir(alloc, path)),
     }
@@ -107,7 +107,7 @@ fn outcome_of(recorded: Result<(), ArchiveError>) -> Option<RecordOutcome>
     };
     match error {
         ArchiveError::JournalFull => None,
-        ArchiveError::Device => Some(RecordOutcome::Unconfirmed),
+        ArchiveError::Device => Some(RecordOutcome::Tried),
         ArchiveError::NoParent | ArchiveError::Root | ArchiveError::Full => Some(
             RecordOutcome::Refused(error.refusal()),
         ),
@@ -116,10 +116,10 @@ fn outcome_of(recorded: Result<(), ArchiveError>) -> Option<RecordOutcome>
 }
 
 /// It can be kept in an archive, if the archive does not refuse it.
-fn is_lawful(kept: &ItemRecord)
-    ensures { IsLawfulKept (kept_for kept.now) }
+fn is_lawful(item_record: &ItemRecord)
+    ensures { IsLawfulKept (kept_for item_record.now) }
 {
-    match kept {
+    match item_record {
         ItemRecord::Record(path, marks) => {
             let _ = path.names();
             are_lawful(marks.as_ref());
@@ -149,9 +149,9 @@ fn make_room<D: Disk>(alloc: Global, archive: &mut Archive<D>) -> Result<(), Rec
         → machine.status ≡ Up → MakesRoomNow archive.new pair machine result }
     ensures failures { MatchResult result
         (λ _. D.Disk.failures (disk_of archive.new) ≡ D.Disk.failures (disk_of archive.old))
-        (λ due. CountsFailuresOrStops due (is_stopped (D.Disk.arms (disk_of archive.new)))
+        (λ outcome. CountsFailuresOrStops outcome (is_stopped (D.Disk.arms (disk_of archive.new)))
         (D.Disk.failures (disk_of archive.old)) (D.Disk.failures (disk_of archive.new))) }
-    ensures refused { IfErr result (λ due. (why : Refusal) → due ≡ RecordOutcome.Refused why
+    ensures refused { IfErr result (λ outcome. (why : Refusal) → outcome ≡ RecordOutcome.Refused why
         → IsAsItWas archive.old archive.new) }
     ensures memory { SameMemory archive.old archive.new }
 {
@@ -168,9 +168,9 @@ fn checkpoint<D: Disk>(alloc: Global, archive: &mut Archive<D>) -> Result<(), Re
         → machine.status ≡ Up → Checkpoints archive.new pair machine result }
     ensures failures { MatchResult result
         (λ _. D.failures (disk_of archive.new) ≡ D.failures (disk_of archive.old))
-        (λ due. CountsFailures due (D.failures (disk_of archive.old))
+        (λ outcome. CountsFailures outcome (D.failures (disk_of archive.old))
         (D.failures (disk_of archive.new))) }
-    ensures refused { IfErr result (λ due. (why : Refusal) → due ≡ RecordOutcome.Refused why
+    ensures refused { IfErr result (λ outcome. (why : Refusal) → outcome ≡ RecordOutcome.Refused why
         → IsAsItWas archive.old archive.new) }
     ensures memory { SameMemory archive.old archive.new }
 {

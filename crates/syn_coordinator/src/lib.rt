@@ -33,10 +33,10 @@
 //!   (`opens`), refused 9 or 11 alone (`rests`).
 //! - No record is cut off under a session that runs (`quiet`, `untried`), so another opening leaves
 //!   its archive's marks as they were.
-//! - `planned` answers how many items the plan of the running session has; none before it is made.
-//!   `settled` answers what became of its items so far, as it would report them if it ended now, or
-//!   else what the last report has of them (`settled_so_far`).
-//!   `waits_on` says whether a request of that session waits on a side.
+//! - `settled` answers what became so far of the items of the running session, as it would report
+//!   them if it ended now, or else what the last report has of them (`settled`: `settled_so_far`).
+//!   It has how many items the plan of the running session has, once that is made (`planned`).
+//! - `waits_on` says whether a request of the running session waits on a side.
 //!
 //! # What is due is kept
 //!
@@ -49,12 +49,12 @@
 //!   `Settles`). It is recorded; or its item is refused as the archive refuses it, or 7 where no
 //!   checkpoint can be made. Or the session ends: 10 where the archive is halted, 9 for the device,
 //!   8 where a checkpoint leaves no room, and 11 for memory. With 9 it says whether the record was
-//!   sent to the disk (`Unconfirmed`) or its checkpoint failed before that (`Unsent`). 11 comes
+//!   sent to the disk (`Tried`) or its checkpoint failed before that (`Unsent`). 11 comes
 //!   only where the archive is neither halted nor refuses the record (`memory`).
 //! - An item that is refused leaves the archive just as it was, with its disk (`refused`).
 //! - The count of failed device calls grows exactly where the session ends for the device, but for
 //!   a stop right after the checkpoint (`failures`). The pair stays (`pair`).
-//! - `Unconfirmed` is a record that was being written as a device call failed, with the room and
+//! - `TriedRecord` is a record that was being written as a device call failed, with the room and
 //!   the generation that the archive showed (`IsTriedBy`). `recovered_record` gives it where the
 //!   archive, which was opened again, has less room in the same generation (`found_in`).
 //! - `Tries tried machine`: what is remembered is what the machine's journal was writing, and
@@ -64,11 +64,11 @@
 mod coordinator;
 mod due;
 mod error;
-mod recorder;
+mod plan_runner;
 mod session_end;
 mod tried;
 
 pub use coordinator::Coordinator;
 pub use due::{RecordOutcome, keep_due};
 pub use error::StartError;
-pub use tried::{Unconfirmed, recovered_record};
+pub use tried::{TriedRecord, recovered_record};

@@ -10,18 +10,18 @@ use syn_image::Kept;
 /// A record that was being written as a device call failed, with what the archive's journal showed
 /// after it. Whether the disk has the record shows when it is opened again.
 #[derive(Debug, Drop)]
-pub struct Unconfirmed {
+pub struct TriedRecord {
     pub(crate) kept: Kept,
     pub(crate) room: usize,
     pub(crate) generation: u64,
 }
 
-impl Unconfirmed {
+impl TriedRecord {
     /// The record, tried in this archive now.
-    pub fn new<D: Disk>(kept: Kept, archive: &Archive<D>) -> Unconfirmed
+    pub fn new<D: Disk>(kept: Kept, archive: &Archive<D>) -> TriedRecord
         ensures { IsTriedBy archive.now (kept_of kept) result }
     {
-        Unconfirmed {
+        TriedRecord {
             kept,
             room: archive.room(),
             generation: archive.generation(),
@@ -44,7 +44,7 @@ impl Unconfirmed {
 }
 
 /// The record that was tried, where the archive, which was opened again, has it.
-pub fn recovered_record<D: Disk>(tried: Option<Unconfirmed>, archive: &Archive<D>) -> Option<Kept>
+pub fn recovered_record<D: Disk>(tried: Option<TriedRecord>, archive: &Archive<D>) -> Option<Kept>
     ensures { option_map kept_of result ≡ found_in tried archive.now }
 {
     match tried {

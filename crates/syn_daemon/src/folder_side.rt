@@ -40,12 +40,12 @@ pub struct FolderSide<'a, F, A: Disk> {
 /// What works in a thread of its own beside a server.
 pub(crate) trait Companion {
     /// Works until the server has ended.
-    fn keep(self);
+    fn run(self);
 }
 
 /// What the folder's thread works with.
 #[derive(Drop)]
-pub(crate) struct FolderKeeper<'a, H, D: Disk, F, A: Disk> {
+pub(crate) struct FolderThread<'a, H, D: Disk, F, A: Disk> {
     pub(crate) rt: &'a H,
     pub(crate) alloc: Global,
     pub(crate) shared: &'a SharedReplica<D>,
@@ -53,15 +53,15 @@ pub(crate) struct FolderKeeper<'a, H, D: Disk, F, A: Disk> {
     pub(crate) ending: &'a Ending,
 }
 
-impl<H, D, F, A> Companion for FolderKeeper<'_, H, D, F, A>
+impl<H, D, F, A> Companion for FolderThread<'_, H, D, F, A>
 where
     H: Wait + Clock + Log,
     D: Disk,
     F: Files,
     A: Disk + Drop,
 {
-    fn keep(self) {
-        let FolderKeeper {
+    fn run(self) {
+        let FolderThread {
             rt,
             alloc,
             shared,

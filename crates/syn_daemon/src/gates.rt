@@ -56,8 +56,8 @@ impl<H: Wait, G: Drop> Drop for Ringing<'_, H, G> {
 }
 
 impl<H: Wait, G: Gate> Gate for Ringing<'_, H, G> {
-    fn pass(&mut self, point: Point) {
-        self.gate.pass(point);
+    fn reach(&mut self, point: Point) {
+        self.gate.reach(point);
         if let Point::After(_) = point {
             self.bell.ring(self.rt);
         }

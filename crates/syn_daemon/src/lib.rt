@@ -19,11 +19,11 @@
 #![tactic(auto)]
 
 mod bell;
+mod checkpointer;
 mod console;
 mod ending;
 mod folder_side;
 mod gates;
-mod keeper;
 mod server;
 mod sessions;
 mod shares;

@@ -5,7 +5,7 @@ ghost use Rattle.syn_refusal.specs.Refusals.{cause_of};
 
 use crate::bell::Bell;
 use crate::ending::Ending;
-use crate::folder_side::{Companion, FolderKeeper, FolderSide};
+use crate::folder_side::{Companion, FolderSide, FolderThread};
 use crate::gates::Gates;
 use crate::shares::Shares;
 use log::{Log, info, warn};
@@ -121,14 +121,16 @@ where
         least_room: LEAST_ROOM,
     };
     let ending = Ending::new();
-    let keeper = FolderKeeper {
+    let companion = FolderThread {
         rt,
         alloc,
         shared,
         side,
         ending: &ending,
     };
-    serve_with(rt, alloc, shared, listener, bounds, gates, keeper, &ending)
+    serve_with(
+        rt, alloc, shared, listener, bounds, gates, companion, &ending,
+    )
 }
 
 /// Serves within these bounds beside the companion, which hears of the end.
@@ -172,7 +174,7 @@ fn start_companion<'s, E, C: Companion + Send + Drop + 's>(
     scope: &Scope<'s, E>,
     companion: C,
 ) -> bool {
-    scope.spawn(move || companion.keep()).is_ok()
+    scope.spawn(move || companion.run()).is_ok()
 }
 
 /// Serves with other numbers of connections and workers and other room.
@@ -277,7 +279,7 @@ pub(crate) trait Host {
         requires { is_ready self.now };
 
     /// The work of the checkpointer's thread.
-    fn keep(&self)
+    fn run_checkpointer(&self)
         requires { is_ready self.now };
 }
 
@@ -294,8 +296,8 @@ where
         X::work_on(self, stream, number, gate);
     }
 
-    fn keep(&self) {
-        X::keep(self);
+    fn run_checkpointer(&self) {
+        X::run_checkpointer(self);
     }
 }
 
@@ -321,7 +323,7 @@ where
         move |scope|
             requires { T.is_ready server.now }
         {
-            if !start_keeper(scope, server) {
+            if !start_checkpointer(scope, server) {
                 return false;
             }
             info!(rt; "serving");
@@ -333,14 +335,14 @@ where
 }
 
 /// Starts the checkpointer. False where no thread can be made for it.
-fn start_keeper<'s, E, T: Host + Sync>(scope: &Scope<'s, E>, server: &'s T) -> bool
+fn start_checkpointer<'s, E, T: Host + Sync>(scope: &Scope<'s, E>, server: &'s T) -> bool
     requires { T.is_ready server.now }
 {
     scope
         .spawn(
             move ||
                 requires { T.is_ready server.now }
-            { server.keep() },
+            { server.run_checkpointer() },
         )
         .is_ok()
 }

@@ -6,7 +6,7 @@ ghost use Rattle.std.specs.Prelude.{◌≡◌, ◌⊎◌, IfErr};
 ghost use Rattle.syn_lock.specs.declared.error.LockError.TheVariants as lock;
 
 use crate::server::Service;
-use crate::{keeper, worker};
+use crate::{checkpointer, worker};
 use log::Log;
 use std::alloc::Global;
 use std::net::TcpStream;
@@ -45,7 +45,9 @@ pub(crate) trait Shares<S>: Sized {
             × (origin_in service.now.shared.now ≡ L.origin) };
 
     /// The work of the checkpointer's thread.
-    fn keep<H: Wait + Clock + Log, L: Naming<S>>(service: &Service<'_, H, Self, PassPool<S, L>>)
+    fn run_checkpointer<H: Wait + Clock + Log, L: Naming<S>>(
+        service: &Service<'_, H, Self, PassPool<S, L>>,
+    )
         requires { (lock_in service.now.shared.now ≡ L.lock)
             × (origin_in service.now.shared.now ≡ L.origin) };
 }
@@ -76,9 +78,9 @@ impl<D: Disk> Shares<Replica<D>> for SharedReplica<D> {
         worker::work_on(service, stream, number, gate);
     }
 
-    fn keep<H: Wait + Clock + Log, L: Naming<Replica<D>>>(
+    fn run_checkpointer<H: Wait + Clock + Log, L: Naming<Replica<D>>>(
         service: &Service<'_, H, SharedReplica<D>, PassPool<Replica<D>, L>>,
     ) {
-        keeper::keep(service);
+        checkpointer::run_checkpointer(service);
     }
 }

@@ -65,8 +65,6 @@ impl<E: Write> SessionWatch for UnreachedOnly<'_, E> {
 
     fn heard(&mut self, _from: Side, _answered: &ReplyMessage) {}
 
-    fn planned(&mut self, _items: usize) {}
-
     fn settled(&mut self, _settled: &SettledItems<'_>, _kept: &[Kept]) {}
 
     fn ended(&mut self, _report: &Report) {}
@@ -101,10 +99,6 @@ impl<V: SessionWatch> SessionWatch for PositionCounter<'_, V> {
             _ => {}
         }
         self.watch.heard(from, answered);
-    }
-
-    fn planned(&mut self, items: usize) {
-        self.watch.planned(items);
     }
 
     fn settled(&mut self, settled: &SettledItems<'_>, kept: &[Kept]) {
@@ -198,9 +192,9 @@ where
     V: SessionWatch,
     O: Write,
 {
-    let mut sides = Sides {
-        left: Watched::new(command.left),
-        right: Watched::new(command.right),
+    let mut sides = PolledServers {
+        left: PolledServer::new(command.left),
+        right: PolledServer::new(command.right),
     };
     let mut keeper = Keeper {
         rt,
@@ -237,7 +231,7 @@ where
     fn keep<D: Disk, V: SessionWatch, O: Write>(
         &mut self,
         coordinator: &mut Coordinator<D>,
-        sides: &mut Sides<'_>,
+        sides: &mut PolledServers<'_>,
         watch: &mut V,
         output: &mut O,
     ) -> Result<(), CommandError> {
@@ -256,7 +250,7 @@ where
     /// since both were reached last.
     fn positions<V: SessionWatch>(
         &mut self,
-        sides: &mut Sides<'_>,
+        sides: &mut PolledServers<'_>,
         watch: &mut V,
     ) -> Option<(u64, u64)> {
         let (side, error) = match sides.left.position(self.rt, self.alloc) {
@@ -334,25 +328,25 @@ where
     }
 }
 
-/// Both sides, as they are looked at.
+/// Both servers, as they are polled.
 #[derive(Drop)]
-struct Sides<'a> {
-    left: Watched<'a>,
-    right: Watched<'a>,
+struct PolledServers<'a> {
+    left: PolledServer<'a>,
+    right: PolledServer<'a>,
 }
 
 /// A server that is asked for its position again and again, over one connection as long as that
 /// lasts: so neither its log nor its count of connections grows by a look.
 #[derive(Drop)]
-struct Watched<'a> {
+struct PolledServer<'a> {
     address: &'a str,
     connection: Option<SideConnection<TcpStream, TcpStream>>,
 }
 
-impl<'a> Watched<'a> {
+impl<'a> PolledServer<'a> {
     /// The server at the address, which was not asked yet.
-    fn new(address: &'a str) -> Watched<'a> {
-        Watched {
+    fn new(address: &'a str) -> PolledServer<'a> {
+        PolledServer {
             address,
             connection: None,
         }

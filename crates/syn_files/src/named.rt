@@ -37,7 +37,7 @@ pub fn replica_in<N: NamedDisks>(
     disks: &N,
     name: &str,
 ) -> Result<Replica<N::Disk>, CommandError> {
-    replica_on(alloc, disks.lock(name, Access::Write))
+    replica_on(alloc, disks.lock(name, Access::Write)?)
 }
 
 /// The archive of that name, which no other process may open meanwhile.
@@ -46,7 +46,7 @@ pub fn archive_in<N: NamedDisks>(
     disks: &N,
     name: &str,
 ) -> Result<Archive<N::Disk>, CommandError> {
-    archive_on(alloc, disks.lock(name, Access::Write))
+    archive_on(alloc, disks.lock(name, Access::Write)?)
 }
 
 /// The archive of that name, to be read. Its disk need not be one that can be written.
@@ -55,7 +55,7 @@ pub fn archive_to_read<N: NamedDisks>(
     disks: &N,
     name: &str,
 ) -> Result<Archive<N::Disk>, CommandError> {
-    archive_on(alloc, disks.lock(name, Access::Read))
+    archive_on(alloc, disks.lock(name, Access::Read)?)
 }
 
 /// The image of that name, to be read. Its disk need not be one that can be written.
@@ -74,29 +74,29 @@ pub fn replica_to_read<N: NamedDisks>(
     disks: &N,
     name: &str,
 ) -> Result<Replica<N::Disk>, CommandError> {
-    replica_on(alloc, disks.lock(name, Access::Read))
+    replica_on(alloc, disks.lock(name, Access::Read)?)
 }
 
-/// The replica on the disk that was locked, where it was.
+/// The replica on the disk that was locked.
 pub(crate) fn replica_on<L: LockedDisk>(
     alloc: Global,
-    locked: Result<L, OpenError>,
+    locked: L,
 ) -> Result<Replica<L::Disk>, CommandError>
 where
     L::Disk: Drop,
 {
-    let disk = locked?.into_disk(alloc)?;
+    let disk = locked.into_disk(alloc)?;
     Replica::open(alloc, disk, None).map_err(|(error, _)| CommandError::from(error))
 }
 
-/// The archive on the disk that was locked, where it was.
+/// The archive on the disk that was locked.
 pub(crate) fn archive_on<L: LockedDisk>(
     alloc: Global,
-    locked: Result<L, OpenError>,
+    locked: L,
 ) -> Result<Archive<L::Disk>, CommandError>
 where
     L::Disk: Drop,
 {
-    let disk = locked?.into_disk(alloc)?;
+    let disk = locked.into_disk(alloc)?;
     Archive::open(alloc, disk, None).map_err(|(error, _)| CommandError::from(error))
 }

@@ -100,7 +100,7 @@ pub fn plan_named<N: NamedDisks, F: Files, O: Write, E: Write>(
             let archive = empty_archive(alloc, replica.pair())?;
             asked.print(alloc, &archive, output, errors)
         }
-        locked => asked.print(alloc, &archive_on(alloc, locked)?, output, errors),
+        locked => asked.print(alloc, &archive_on(alloc, locked?)?, output, errors),
     }
 }
 
@@ -158,9 +158,9 @@ pub(crate) fn archive_or_new<N: NamedDisks>(
     match disks.lock(name, Access::Write) {
         Err(error) if is_missing(&error) => {
             disks.make_archive(alloc, name, pair)?;
-            archive_on(alloc, disks.lock(name, Access::Write))
+            archive_on(alloc, disks.lock(name, Access::Write)?)
         }
-        locked => archive_on(alloc, locked),
+        locked => archive_on(alloc, locked?),
     }
 }
 

@@ -31,12 +31,12 @@ where
 {
     let (right, (archive, left)) = join(
         rt,
-        move || replica_on(alloc, right),
+        move || replica_on(alloc, right?),
         move || {
             join(
                 rt,
-                move || archive_on(alloc, archive),
-                move || replica_on(alloc, left),
+                move || archive_on(alloc, archive?),
+                move || replica_on(alloc, left?),
             )
         },
     );

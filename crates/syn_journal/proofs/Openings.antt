@@ -23,6 +23,7 @@ use Rattle.syn_journal.specs.Layout.{is_open, other_half, record_of, records_of}
 use Rattle.syn_journal.specs.Opened.{value_read}
 use Rattle.syn_journal.specs.Refusals.{IsOpenRefusal}
 use Rattle.syn_journal.specs.declared.contents.Contents.{Contents}
+use Rattle.syn_journal.specs.declared.cursor.JournalCursor.{JournalCursor}
 use Rattle.syn_journal.specs.inner.Reading.{IsReadRefusal}
 use Rattle.syn_journal.specs.inner.Whole.{IsInStep, IsWhole}
 use Rattle.syn_journal.proofs.Meanings.{in_step, within_disk}
@@ -255,18 +256,16 @@ module _ (disk : List ℕ) (half : Half) (image : List ℕ) (fits : length image
       ∙ append_assoc (to_be_bytes w32 (length image)) image (records_of payloads)
 
 -- what was read of a disk stands on it still after the reads
-module _ (old new : List ℕ) (found : Contents) (same : new ≡ old)
-    (whole : IsWhole old found.cursor.half found.cursor.generation found.cursor.gate
-    (value_read found.image found.records)) where
-  pub read_whole : IsWhole new found.cursor.half found.cursor.generation found.cursor.gate
-      (value_read found.image found.records)
+module _ (old new : List ℕ) (cursor : JournalCursor) (contents : Contents) (same : new ≡ old)
+    (whole : IsWhole old cursor.half cursor.generation cursor.gate (value_read contents)) where
+  pub read_whole : IsWhole new cursor.half cursor.generation cursor.gate (value_read contents)
   read_whole =
-      subst (λ bytes. IsWhole bytes found.cursor.half found.cursor.generation found.cursor.gate
-      (value_read found.image found.records)) (sym same) whole
+      subst (λ bytes. IsWhole bytes cursor.half cursor.generation cursor.gate
+      (value_read contents)) (sym same) whole
 
   pub read_in_step : (may_leave : List ℕ → Type 0) →
-      is_open old (other_half found.cursor.half) ≡ found.cursor.other_is_open →
-      Only new may_leave → IsInStep new may_leave found.cursor
+      is_open old (other_half cursor.half) ≡ cursor.other_is_open →
+      Only new may_leave → IsInStep new may_leave cursor
   read_in_step may_leave other durable =
-      in_step new may_leave found.cursor _ read_whole
-      (ap (λ bytes. is_open bytes (other_half found.cursor.half)) same ∙ other) durable
+      in_step new may_leave cursor _ read_whole
+      (ap (λ bytes. is_open bytes (other_half cursor.half)) same ∙ other) durable

@@ -26,22 +26,27 @@ use crate::read::{read_bytes, read_u8, read_u32, read_u64};
 use std::alloc::Global;
 use syn_disk::{DeviceFailed, Disk};
 
-/// What a disk stands for, and where it stands there.
+/// What a disk stands for.
 #[derive(Drop)]
 pub struct Contents {
-    pub cursor: JournalCursor,
+    /// The image of the last checkpoint, or of the format where none was made.
     pub image: Vec<u8>,
-    pub records: Vec<Vec<u8>>,
+    /// The payloads since, the oldest first.
+    pub payloads: Vec<Vec<u8>>,
 }
 
-/// Finds out what a disk stands for. It syncs first, so that a stop leaves what is read.
-pub fn read_contents<D: Disk>(alloc: Global, disk: &mut D) -> Result<Contents, JournalError>
+/// Finds out what a disk stands for, and where it stands there. It syncs first, so that a stop
+/// leaves what is read.
+pub(crate) fn read_contents<D: Disk>(
+    alloc: Global,
+    disk: &mut D,
+) -> Result<(JournalCursor, Contents), JournalError>
     ensures whole { IfOk result
-        (λ found. IsWhole (D.seen disk.old) found.cursor.half found.cursor.generation
-        found.cursor.gate (value_read found.image found.records)) }
+        (λ found. IsWhole (D.seen disk.old) found.0.half found.0.generation found.0.gate
+        (value_read found.1)) }
     ensures other { IfOk result
-        (λ found. is_open (D.seen disk.old) (other_half found.cursor.half)
-        ≡ found.cursor.other_is_open) }
+        (λ found. is_open (D.seen disk.old) (other_half found.0.half)
+        ≡ found.0.other_is_open) }
     ensures durable { OnOk result (Only (D.seen disk.new) (D.may_leave disk.new)) }
     ensures refusals { IfErr result (λ refusal. IsOpenRefusal refusal (meaning (D.seen disk.old))) }
     ensures untouched { Untouched D.seen D.may_leave D.moment D.left_since disk.old disk.new }
@@ -52,17 +57,14 @@ pub fn read_contents<D: Disk>(alloc: Global, disk: &mut D) -> Result<Contents, J
     disk.sync()?;
     let (half, generation, other_is_open) = read_current(disk)?;
     let image = read_image(alloc, disk, half)?;
-    let (records, gate) = read_records(alloc, disk, half, IMAGE_AT + image.len())?;
-    Ok(Contents {
-        cursor: JournalCursor {
-            half,
-            generation,
-            gate,
-            other_is_open,
-        },
-        image,
-        records,
-    })
+    let (payloads, gate) = read_payloads(alloc, disk, half, IMAGE_AT + image.len())?;
+    let cursor = JournalCursor {
+        half,
+        generation,
+        gate,
+        other_is_open,
+    };
+    Ok((cursor, Contents { image, payloads }))
 }
 
 // What stands before the image's length in a half.
@@ -153,7 +155,7 @@ fn read_image<D: Disk>(alloc: Global, disk: &mut D, half: Half) -> Result<Vec<u8
 }
 
 // The payloads from this gate on, and the closed gate after the last.
-fn read_records<D: Disk>(
+fn read_payloads<D: Disk>(
     alloc: Global,
     disk: &mut D,
     half: Half,
@@ -176,14 +178,14 @@ fn read_records<D: Disk>(
         (λ refusal. CountsFailures refusal (D.failures disk.old) (D.failures disk.new)) }
     ensures calls { ReadsAtLeast 0 result (D.arms disk.old) (D.arms disk.new) }
 {
-    let mut records = Vec::new(alloc);
+    let mut payloads = Vec::new(alloc);
     let mut gate = first;
     while read_u8(disk, half.start() + gate)? == OPEN_GATE {
         let payload = read_record(alloc, disk, half, gate)?;
         gate += RECORD_HEADER + payload.len();
-        records.push(payload)?;
+        payloads.push(payload)?;
     }
-    Ok((records, gate))
+    Ok((payloads, gate))
 }
 
 // The payload after an open gate.

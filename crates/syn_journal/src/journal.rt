@@ -34,7 +34,7 @@ ghost use Rattle.syn_journal.specs.declared.layout.TheConstants.{IMAGE_AT, RECOR
 
 use crate::JournalError;
 use crate::commit::commit;
-use crate::contents::read_contents;
+use crate::contents::{Contents, read_contents};
 use crate::cursor::JournalCursor;
 use crate::half::{HALF_SIZE, Half};
 use crate::layout::{IMAGE_AT, LONGEST_IMAGE, RECORD_HEADER, RECORD_OVERHEAD};
@@ -45,8 +45,6 @@ use syn_disk::{Arm, DeviceFailed, Disk, Limit};
 mod batch;
 mod checkpoint;
 mod reopen;
-
-pub use reopen::Reopened;
 
 /// An image and the payloads that were appended since, on a disk.
 ///
@@ -65,10 +63,7 @@ pub struct Journal<D: Disk> {
 #[derive(Drop)]
 pub struct Opened<D: Disk> {
     pub journal: Journal<D>,
-    /// The image of the last checkpoint, or of the format where none was made.
-    pub image: Vec<u8>,
-    /// The payloads since, the oldest first.
-    pub records: Vec<Vec<u8>>,
+    pub contents: Contents,
 }
 
 impl<D: Disk> Journal<D> {
@@ -134,7 +129,7 @@ impl<D: Disk> Journal<D> {
     /// and of one generation or the current one breaks the layout, and `Memory`.
     pub fn open(alloc: Global, mut disk: D) -> Result<Opened<D>, (JournalError, D)>
         ensures opened { IfOk result
-            (λ opened. Stands opened.journal (value_read opened.image opened.records)) }
+            (λ opened. Stands opened.journal (value_read opened.contents)) }
         ensures half { IfOk result (λ opened. current (D.seen disk) ≡ Ok (half_of opened.journal)) }
         ensures generation { IfOk result
             (λ opened. generation_at (D.seen disk) (half_of opened.journal)
@@ -160,16 +155,15 @@ impl<D: Disk> Journal<D> {
             (λ refused. AfterReads 1 refused.0 (D.arms disk) (D.arms refused.1)) }
     {
         match read_contents(alloc, &mut disk) {
-            Ok(found) => Ok(Opened {
+            Ok((cursor, contents)) => Ok(Opened {
                 journal: Journal {
                     disk,
-                    cursor: found.cursor,
+                    cursor,
                     halted: false,
                 },
-                image: found.image,
-                records: found.records,
+                contents,
             }),
-            Err(refusal) => Err((refusal, disk)),
+            Err(error) => Err((error, disk)),
         }
     }
 

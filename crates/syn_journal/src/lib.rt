@@ -96,10 +96,11 @@ mod number;
 mod read;
 mod state;
 
+pub use contents::Contents;
 pub use cursor::JournalCursor;
 pub use error::JournalError;
 pub use half::HALF_SIZE;
-pub use journal::{Journal, Opened, Reopened};
+pub use journal::{Journal, Opened};
 pub use journaled::Journaled;
 pub use laws::{layout_laws, opening_laws};
 pub use layout::{LONGEST_IMAGE, RECORD_HEADER};

@@ -115,7 +115,7 @@ pub trait State {
             (bytes_of_each payloads.now)) }
         ensures device { IfErr result (λ e. is_device (why e) ≡ false) };
 
-    /// The state that they give, where it may follow this one.
+    /// The state that the image and the payloads after it give, where it may follow this one.
     fn read_again(
         &self,
         alloc: Global,

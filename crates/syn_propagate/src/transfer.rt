@@ -25,7 +25,7 @@ enum TransferState {
     /// Nothing is asked yet.
     Ready,
     /// The piece from the offset on is asked for. How long the whole is, the first piece tells.
-    Fetching { offset: u32, total: Option<u32> },
+    Fetching { offset: u32, known: Option<u32> },
     /// A piece that ends there is sent.
     Staging { end: u32, total: u32 },
     /// The replacement is asked for.
@@ -108,11 +108,10 @@ impl Transfer {
         };
         match self.state {
             TransferState::Ready | TransferState::Over => self.end(Err(TransferError::BadMessage)),
-            TransferState::Fetching { offset, total } => match reply {
-                Reply::Piece {
-                    total: whole,
-                    bytes,
-                } => self.take_piece(alloc, offset, total, whole, bytes),
+            TransferState::Fetching { offset, known } => match reply {
+                Reply::Piece { total, bytes } => {
+                    self.take_piece(alloc, offset, known, total, bytes)
+                }
                 other => self.end(or_refused(other)),
             },
             TransferState::Staging { end, total } => match reply {
@@ -218,18 +217,18 @@ impl Transfer {
         &mut self,
         alloc: Global,
         offset: u32,
-        total: Option<u32>,
+        known: Option<u32>,
     ) -> Result<Next, TransferError>
         ensures spec { spec_of self.new ≡ spec_of self.old }
         ensures asking { IfOk result IsAsking }
-        ensures asks { (taken : Exchanges) → HasReached (spec_of self.old) taken offset total
+        ensures asks { (taken : Exchanges) → HasReached (spec_of self.old) taken offset known
             → MatchResult result (FollowsAny self.new taken) (λ e. e ≡ TransferError.Memory) }
         ensures over { IfOk result (IsOverUnlessAsking self.new) }
         ensures memory { IfErr result (λ e. e ≡ TransferError.Memory) }
         ensures unchanged { OnErr result (self.new ≡ self.old) }
     {
         let next = self.spec.fetch(alloc, offset)?;
-        self.state = TransferState::Fetching { offset, total };
+        self.state = TransferState::Fetching { offset, known };
         Ok(next)
     }
 

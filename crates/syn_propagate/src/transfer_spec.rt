@@ -97,7 +97,7 @@ impl TransferSpec {
         }))
     }
 
-    /// The path once more, which is lawful. Refused where memory is refused.
+    /// A copy of the path. Refused where memory is refused.
     fn copy_path(&self, alloc: Global) -> Result<Path, AllocError>
         ensures ok { IfOk result (λ path. path ≡ self.now.path) }
         ensures lawful { IsPath self.now.path }

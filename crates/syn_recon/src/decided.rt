@@ -70,8 +70,8 @@ pub(crate) fn decide(
     }
 }
 
-/// What is decided where both sides changed: the preferred side goes to the other, unless the path
-/// is unstable itself.
+/// What is decided where both sides changed: what the preferred side has goes to the other, unless
+/// the path is unstable itself.
 fn contested(preference: Option<Side>, is_unstable: bool) -> Decided
     ensures { (path : Where)
         → decision_at path result

@@ -16,9 +16,9 @@
 #![tactic(auto)]
 
 mod decided;
+mod dirty;
 mod error;
 mod item;
-mod touched;
 mod tree_scan;
 mod trees;
 mod walk;

@@ -9,9 +9,9 @@ ghost use Rattle.syn_recon.specs.inner.Walks.{decided, merged, is_settled, targe
 ghost use Rattle.syn_recon.specs.inner.Decided.{walk, items_at, settled_at};
 
 use crate::decided::{decide, push_item, settled_after};
+use crate::dirty::{DirtyPath, next_dirty};
 use crate::error::PlanError;
 use crate::item::Item;
-use crate::touched::{Touched, next_touched};
 use std::alloc::Global;
 use syn_dirty::dirty_set;
 use syn_mark::MarkTree;
@@ -74,11 +74,9 @@ fn items_along<'s, 'a>(
     let mut settled = None;
     let mut left_at = 0;
     let mut right_at = 0;
-    while let Some((touched, left_next, right_next)) = next_touched(
-        lefts, left_at, rights, right_at,
-    ) {
+    while let Some((dirty, left_next, right_next)) = next_dirty(lefts, left_at, rights, right_at) {
         settled = step(
-            alloc, left, right, archive, preference, &mut items, touched, settled,
+            alloc, left, right, archive, preference, &mut items, dirty, settled,
         )?;
         left_at = left_next;
         right_at = right_next;
@@ -95,18 +93,18 @@ fn step<'a>(
     archive: &MarkTree,
     preference: Option<Side>,
     items: &mut Vec<Item>,
-    touched: Touched<'a>,
+    dirty: DirtyPath<'a>,
     settled: Option<&'a Path>,
 ) -> Result<Option<&'a Path>, PlanError>
     ensures items { OnOk result (items_of items.new.items ≡ items_of items.old.items
         ++ items_at (decided (option_map which_of preference) (scan_of left.now)
-        (scan_of right.now) archive.now) (row_at touched.entry) (target settled.entry)) }
+        (scan_of right.now) archive.now) (row_at dirty.entry) (target settled.entry)) }
     ensures settled { IfOk result (λ later. target later ≡ settled_at (decided
         (option_map which_of preference) (scan_of left.now) (scan_of right.now) archive.now)
-        (row_at touched.entry) (target settled.entry)) }
+        (row_at dirty.entry) (target settled.entry)) }
     ensures memory { IfErr result (λ e. e ≡ PlanError.Memory) }
 {
-    let (path, on_left, on_right) = touched;
+    let (path, on_left, on_right) = dirty;
     if is_settled(settled, path) {
         return Ok(settled);
     }

@@ -100,7 +100,7 @@ impl State for Remembered {
         read_replica(alloc, Version::One, image, None, payloads)
     }
 
-    /// Refused 19 too where they are of another pair, and where they give fewer events than are
+    /// Refused 19 too where the image is of another pair, and where both give fewer events than are
     /// remembered, so that no reopening goes back.
     fn read_again(
         &self,

@@ -76,10 +76,9 @@ impl Standing {
         ensures same { self.new ≡ self.old }
         ensures memory { IfErr result (λ e. e ≡ ReplicaError.Memory) }
     {
-        match self.trail.build_index(alloc) {
-            Ok(()) => Ok(()),
-            Err(_) => Err(ReplicaError::Memory),
-        }
+        self.trail
+            .build_index(alloc)
+            .map_err(|_| ReplicaError::Memory)
     }
 
     /// The tree that the history leaves.

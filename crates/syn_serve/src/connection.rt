@@ -86,9 +86,9 @@ impl<R: Read, W: Write> ServerConnection<R, W> {
             return Ok(Exchanged::Ended);
         };
         let kind = request.kind();
-        gate.pass(Point::Before(kind));
+        gate.reach(Point::Before(kind));
         let reply = answer(rt, alloc, shared, pass, &mut self.agent, request);
-        gate.pass(Point::After(kind));
+        gate.reach(Point::After(kind));
         self.send(alloc, &reply)?;
         Ok(Exchanged::Answered)
     }

@@ -11,6 +11,6 @@ pub enum Point {
 
 /// What a worker passes before and after each answer, outside the lock. A test holds workers there.
 pub trait Gate {
-    /// Goes on at once, or later.
-    fn pass(&mut self, point: Point);
+    /// The worker has reached the point. It goes on as this returns.
+    fn reach(&mut self, point: Point);
 }

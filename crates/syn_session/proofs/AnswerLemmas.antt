@@ -48,7 +48,7 @@ module _ (kept : archive.Archive) (old new : Session) (running : Running) (side 
       let answered =
       subst (λ s. (asked_in (waiting_of (peer_of old s)) number ≡ Some request)
       × (waiting_of (peer_of new s) ≡ without number (waiting_of (peer_of old s)))
-      × ((peer_of new s).asked ≡ (peer_of old s).asked))
+      × ((peer_of new s).next_number ≡ (peer_of old s).next_number))
       (sym e) (answers.asked, left_now, answers.count) in
       let now = waits ∙ (ap (without number) (is.peer on).waits ∙ sym answered.1) in
       let less = one_less (waiting_of (peer_of old on)) number request (is.peer on).rising
@@ -70,10 +70,10 @@ module _ (kept : archive.Archive) (old new : Session) (running : Running) (side 
             subst AreRising (sym answered.1)
             (without-rising number (waiting_of (peer_of old on)) (is.peer on).rising);
         below =
-            subst (λ w. All (λ one. one.number < (peer_of new on).asked) w) (sym answered.1)
+            subst (λ w. All (λ one. one.number < (peer_of new on).next_number) w) (sym answered.1)
             (subst (λ n. All (λ one. one.number < n) (without number (waiting_of (peer_of old on))))
             (sym answered.2) (All-filter (λ one. not (one.number == number))
-            (λ one. one.number < (peer_of old on).asked) (waiting_of (peer_of old on))
+            (λ one. one.number < (peer_of old on).next_number) (waiting_of (peer_of old on))
             (is.peer on).below));
         may =
             subst MayWait (sym answered.1)
@@ -90,13 +90,13 @@ module _ (kept : archive.Archive) (old new : Session) (running : Running) (side 
         waits = waits ∙ ((is.peer on).waits ∙ ap waiting_of (sym same));
         count =
             ap₂ (λ a b. a + b) count (ap length waits)
-            ∙ ((is.peer on).count ∙ ap (λ l. l.asked) (sym same));
-        few = subst (λ n. n ≤ 2 ^ 32) (ap (λ l. l.asked) (sym same)) (is.peer on).few;
+            ∙ ((is.peer on).count ∙ ap (λ l. l.next_number) (sym same));
+        few = subst (λ n. n ≤ 2 ^ 32) (ap (λ l. l.next_number) (sym same)) (is.peer on).few;
         of_session =
             subst (AreOfSession running.session) (sym same) (is.peer on).of_session;
         rising = subst (λ l. AreRising (waiting_of l)) (sym same) (is.peer on).rising;
         below =
-            subst (λ l. All (λ one. one.number < l.asked) (waiting_of l)) (sym same)
+            subst (λ l. All (λ one. one.number < l.next_number) (waiting_of l)) (sym same)
             (is.peer on).below;
         may = subst (λ l. MayWait (waiting_of l)) (sym same) (is.peer on).may;
       }

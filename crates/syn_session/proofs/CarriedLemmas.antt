@@ -23,7 +23,7 @@ use Rattle.syn_propagate.specs.declared.next.SideRequest.{SideRequest}
 use Rattle.syn_refusal.specs.Refusals.{cause_of}
 use Rattle.syn_refusal.specs.declared.refusal.Refusal.{Refusal}
 use Rattle.syn_scan.specs.Found.{Found}
-use Rattle.syn_session.specs.declared.plan_progress.Carried.{Carried}
+use Rattle.syn_session.specs.declared.plan_progress.Carrying.{Carrying}
 use Rattle.syn_session.specs.declared.plan_progress.PlanProgress.{PlanProgress}
 use Rattle.syn_session.specs.Answering.{exchange_of}
 use Rattle.syn_session.specs.Carrying.{AsksFor, IsCarriedOut}
@@ -74,11 +74,11 @@ module _ (archive : kept_in.Archive) (progress : PlanProgress) (left right : Fou
     (before : Reached) (to : Which) (number : ℕ) (request : Request) (reply : model.Reply)
     (carries : Carries archive progress left right all before
     (λ transfer. WaitsFor transfer all to request))
-    (was : Carried) (same : progress.carried ≡ Some was) where
+    (was : Carrying) (same : progress.carrying ≡ Some was) where
   abbrev taken : Exchange
   taken = exchange_of to number request reply
 
-  was_is : carries.carried ≡ was
+  was_is : carries.carrying ≡ was
   was_is = ap (λ o. unwrap_or o was) (sym carries.is_carried ∙ same)
 
   for_it : IsCarriedFor archive was carries.planned progress.cursor
@@ -86,7 +86,7 @@ module _ (archive : kept_in.Archive) (progress : PlanProgress) (left right : Fou
       carries.carries
 
   pub waits_for : WaitsFor was.transfer all to request
-  waits_for = subst (λ (c : Carried). WaitsFor c.transfer all to request) was_is carries.is
+  waits_for = subst (λ (c : Carrying). WaitsFor c.transfer all to request) was_is carries.is
 
   module _ (law : WaitsForItem) (fault : fault_of all to request reply ≡ None) where
     for_item : IsForItem (spec_of was.transfer) to request
@@ -100,22 +100,24 @@ module _ (archive : kept_in.Archive) (progress : PlanProgress) (left right : Fou
         (spec_of was.transfer) for_it.spec to request for_item)
 
     -- it is carried no further
-    pub carried_out : (now : Option Carried) → IsCarriedOut (record progress { carried = now }) left
+    pub carried_out : (now : Option Carrying) → IsCarriedOut (record progress { carrying = now })
+        left
         right
         (all ++ taken ∷ []) before carries.planned
     carried_out now = record {
       course_is = carrying_more progress now left right before carries.course_is;
       at = carries.at;
       carries = is_carried carries.planned (spec_of was.transfer) progress.cursor for_it.spec;
-      apart = no_conflict carries.planned carries.planned.item (kept_for was.kept) for_it.record_is;
+      apart = no_conflict carries.planned carries.planned.item (kept_for was.item_record)
+          for_it.record_is;
       asked = asked_all;
     }
 
     -- it is carried on
-    pub still_carries : (later : Carried) → spec_of later.transfer ≡ spec_of was.transfer →
-        later.kept ≡ was.kept → (asked : SideRequest) →
+    pub still_carries : (later : Carrying) → spec_of later.transfer ≡ spec_of was.transfer →
+        later.item_record ≡ was.item_record → (asked : SideRequest) →
         AsksFor later.transfer (all ++ taken ∷ []) asked →
-        Carries archive (record progress { carried = Some later }) left right
+        Carries archive (record progress { carrying = Some later }) left right
         (all ++ taken ∷ []) before (λ transfer. AsksFor transfer (all ++ taken ∷ []) asked)
     still_carries later same_carriage same_record asked asks_it =
         carries_on archive progress left right before carries.course_is carries.planned carries.at
@@ -124,12 +126,12 @@ module _ (archive : kept_in.Archive) (progress : PlanProgress) (left right : Fou
 
     -- it is done
     pub is_done : EndsBy (spec_of was.transfer) request reply next.Done →
-        IsDue progress.cursor carries.planned taken (kept_for was.kept)
+        IsDue progress.cursor carries.planned taken (kept_for was.item_record)
     is_done ends =
         is_due (plan_in progress left right) progress.cursor carries.planned carries.at
-        (spec_of was.transfer) for_it.spec to number request reply (kept_for was.kept)
+        (spec_of was.transfer) for_it.spec to number request reply (kept_for was.item_record)
         (marks_of carries.planned (spec_of was.transfer) progress.cursor
-        (kept_for was.kept) for_it.spec for_it.record_is) for_item ends.0 ends.1 ends.2
+        (kept_for was.item_record) for_it.spec for_it.record_is) for_item ends.0 ends.1 ends.2
 
     pub was_for : IsFor progress.cursor carries.planned request
     was_for =

@@ -13,7 +13,7 @@ use Rattle.syn_model.specs.Decision.{ToLeft, ToRight, MarkSame, MarkDir, Conflic
 use Rattle.syn_propagate.specs.Carrying.{source_of, target_of}
 use Rattle.syn_propagate.specs.Transfers.{spec_of}
 use Rattle.syn_propagate.specs.declared.transfer_spec.TransferSpec.{TransferSpec}
-use Rattle.syn_session.specs.declared.plan_progress.Carried.{Carried}
+use Rattle.syn_session.specs.declared.plan_progress.Carrying.{Carrying}
 use Rattle.syn_session.specs.declared.plan_progress.PlanProgress.{PlanProgress}
 use Rattle.syn_image.specs.Archives.{kept_for}
 use Rattle.syn_session.specs.Stages.{Carries, IsCarriageOf, IsCarriedFor, IsPlanProgress, Reached}
@@ -79,10 +79,10 @@ asked_then plan cursor taken one before mine exchange has =
     ]
 
 -- whatever is carried, the progress is the same
-pub carrying_more : (progress : PlanProgress) (carried : Option Carried) (left right : Found)
+pub carrying_more : (progress : PlanProgress) (carrying : Option Carrying) (left right : Found)
     (reached : Reached) → IsPlanProgress progress left right reached →
-    IsPlanProgress (record progress { carried = carried }) left right reached
-carrying_more progress carried left right reached is = record {
+    IsPlanProgress (record progress { carrying = carrying }) left right reached
+carrying_more progress carrying left right reached is = record {
   plan = is.plan;
   made = is.made;
   short = is.short;
@@ -98,17 +98,17 @@ carrying_more progress carried left right reached is = record {
 pub carries_on : (archive : model.Archive) (progress : PlanProgress) (left right : Found)
     (reached : Reached) → IsPlanProgress progress left right reached → (planned : Planned) →
     slice_get (plan_in progress left right) progress.cursor ≡ Some planned →
-    (carried later : Carried) →
-    spec_of later.transfer ≡ spec_of carried.transfer → later.kept ≡ carried.kept →
-    IsCarriedFor archive carried planned progress.cursor → (all : List Exchange) →
+    (carrying later : Carrying) →
+    spec_of later.transfer ≡ spec_of carrying.transfer → later.item_record ≡ carrying.item_record →
+    IsCarriedFor archive carrying planned progress.cursor → (all : List Exchange) →
     AreAskedBefore (plan_in progress left right) (suc progress.cursor) all →
     (Is : Transfer → Type 0) → Is later.transfer →
-    Carries archive (record progress { carried = Some later }) left right all reached Is
-carries_on archive progress left right reached is planned at carried later same_carriage same_record
-    carries all asked Is asks =
+    Carries archive (record progress { carrying = Some later }) left right all reached Is
+carries_on archive progress left right reached is planned at carrying later same_carriage
+    same_record carries all asked Is asks =
     record {
       course_is = carrying_more progress (Some later) left right reached is;
-      carried = later;
+      carrying = later;
       is_carried = refl;
       planned = planned;
       at = at;

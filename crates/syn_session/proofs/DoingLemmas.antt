@@ -109,7 +109,7 @@ module _ (progress : PlanProgress) (left right : Found) (reached : Reached)
         IsDoing progress left right doing
     doing_so has.Nothing never = absurd never
     doing_so (has.Conflict path) e = (planned, at, e)
-    doing_so (has.Mark kept) (inl (path, e, recorded)) = (
+    doing_so (has.Mark item_record) (inl (path, e, recorded)) = (
       planned,
       at,
       ap is_carrying e,
@@ -118,24 +118,26 @@ module _ (progress : PlanProgress) (left right : Found) (reached : Reached)
           (same path e (same_marks is.made.0 left right is.made.1
           (items_of progress.items.items) is.made.2 decided progress.cursor planned path at e)),
     )
-    doing_so (has.Mark kept) (inr (path, e, recorded)) = (
+    doing_so (has.Mark item_record) (inr (path, e, recorded)) = (
       planned,
       at,
       ap is_carrying e,
       λ taken. subst (λ k. IsDue progress.cursor planned taken k) (sym recorded) (directory path e),
     )
-    doing_so (has.Carry carried) (inl (path, e, from)) = (
+    doing_so (has.Carry carrying) (inl (path, e, from)) = (
       planned,
       at,
-      carried_to_left path (spec_of carried.transfer) e from.spec,
-      subst (λ i. record_for (planned_by left right i) i ≡ Some (kept_for carried.kept)) (sym e)
+      carried_to_left path (spec_of carrying.transfer) e from.spec,
+      subst (λ i. record_for (planned_by left right i) i ≡ Some (kept_for carrying.item_record))
+          (sym e)
           (ap (λ k. Some k) (sym from.record_is)),
     )
-    doing_so (has.Carry carried) (inr (path, e, from)) = (
+    doing_so (has.Carry carrying) (inr (path, e, from)) = (
       planned,
       at,
-      carried_to_right path (spec_of carried.transfer) e from.spec,
-      subst (λ i. record_for (planned_by left right i) i ≡ Some (kept_for carried.kept)) (sym e)
+      carried_to_right path (spec_of carrying.transfer) e from.spec,
+      subst (λ i. record_for (planned_by left right i) i ≡ Some (kept_for carrying.item_record))
+          (sym e)
           (ap (λ k. Some k) (sym from.record_is)),
     )
 

@@ -22,7 +22,7 @@ use Rattle.syn_headline.specs.Side.{Begin, Fetch, IsLawfulBody, ListAt, Replace,
 use Rattle.syn_model.specs.Path.{Path}
 use Rattle.syn_scan.specs.Asked.{AreAllOut, is_out}
 use Rattle.syn_scan.specs.Found.{Found, IsWhole, is_open}
-use Rattle.syn_session.specs.Scanning.{IsFoundIn, WaitsFor, WasAnswered, asked_of, found_of, out_of}
+use Rattle.syn_session.specs.Scanning.{IsFoundIn, WaitsFor, WasAnswered, asked_of, out_of}
 use Rattle.syn_session.specs.Scanning.{told_unstable}
 use Rattle.syn_session.specs.declared.peer.PeerState.{PeerState}
 use Rattle.syn_session.specs.declared.hearing.Heard.{Heard}
@@ -117,13 +117,13 @@ module _ (session new : Session) (heard : Running) (h : HasHeard session heard)
         waits = was.waits ∙ sym (waiting_new side);
         count = was.count ∙ sym (keeps.count side);
         few = subst (λ n. n ≤ 2 ^ 32) (sym (keeps.count side)) was.few;
-        of_session = subst (λ w. All (λ one. one.asked.value.session ≡ heard.session) w.items)
+        of_session = subst (λ w. All (λ one. one.message.value.session ≡ heard.session) w.items)
             (sym (keeps.waits side)) was.of_session;
         rising = subst AreRising (sym (waiting_new side)) was.rising;
         below =
             subst (λ n. All (λ one. one.number < n) (waiting_of (peer_of new side)))
             (sym (keeps.count side)) (subst
-            (λ w. All (λ one. one.number < (peer_of session side).asked) w)
+            (λ w. All (λ one. one.number < (peer_of session side).next_number) w)
             (sym (waiting_new side)) was.below);
         may = subst MayWait (sym (waiting_new side)) was.may;
       }
@@ -194,13 +194,13 @@ module _ (session new : Session) (heard : Running) (h : HasHeard session heard)
         (same_directory it.0 path (sym it.1 ∙ no_repeat before path repeat)) it.2)
 
     may_wait_on : (side : Which) → MayWait (waiting_of (peer_of new side)
-        ++ numbered (peer_of new side).asked (asks_of asks side))
+        ++ numbered (peer_of new side).next_number (asks_of asks side))
     may_wait_on side =
         subst (λ rs. MayWait (waiting_of (peer_of new side)
-        ++ numbered (peer_of new side).asked rs)) (sym (on.asked side))
-        (subst (λ w. MayWait (w ++ numbered (peer_of new side).asked
+        ++ numbered (peer_of new side).next_number rs)) (sym (on.asked side))
+        (subst (λ w. MayWait (w ++ numbered (peer_of new side).next_number
         (map ListAt (on.paths side)))) (sym (waiting_new side))
-        (may_listings (waiting_of (peer_of session side)) (peer_of new side).asked
+        (may_listings (waiting_of (peer_of session side)) (peer_of new side).next_number
         (on.paths side) (h.heard_is.peer side).may
         (listings_all (waiting_of (peer_of session side))
         (WaitsFor (peer_of session side).scan) (listing side)) (on.next side).few))
@@ -211,9 +211,9 @@ module _ (session new : Session) (heard : Running) (h : HasHeard session heard)
       requests_later side =
           ap (map (λ (one : Outstanding). one.request)) (asking.peer side).waits
           ∙ (map-append (λ (one : Outstanding). one.request) (waiting_of (peer_of new side))
-          (numbered (peer_of new side).asked (asks_of asks side))
+          (numbered (peer_of new side).next_number (asks_of asks side))
           ∙ (ap (λ l. requests_on (peer_of new side) ++ l)
-          (numbered_requests (peer_of new side).asked (asks_of asks side) ∙ on.asked side)
+          (numbered_requests (peer_of new side).next_number (asks_of asks side) ∙ on.asked side)
           ∙ ap (λ w. map (λ (one : Outstanding). one.request) w
           ++ map ListAt (on.paths side)) (waiting_new side)))
 

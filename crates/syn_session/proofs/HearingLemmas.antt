@@ -1,7 +1,7 @@
 -- A session that scans hears that a side has begun, or what it lists.
 use Rattle.std.proofs.Common.{◌≡◌, ◌≢◌, ◌≤◌, ◌<◌, ◌^◌, ◌==◌, ℕ, Bool, true, false, option_map}
 use Rattle.std.proofs.Common.{true≢false, not, ◌&&◌, if◌then◌else◌, [], ◌++◌, length, map}
-use Rattle.std.proofs.Common.{Option, Some, None, refl, sym, ap, ◌∙◌, subst, inl, inr, arith}
+use Rattle.std.proofs.Common.{Option, None, refl, sym, ap, ◌∙◌, subst, inl, inr, arith}
 use Rattle.std.proofs.Common.{append-nil}
 use Rattle.std.specs.Prelude.{All, AllPairs, Contains}
 use Rattle.std.proofs.lemmas.List.{length-map}
@@ -11,7 +11,7 @@ use Rattle.std.proofs.lemmas.Option.{same_Some}
 use Rattle.syn_headline.specs.Coordinator.{AreRising, Exchange, MayWait, Outstanding, Running}
 use Rattle.syn_headline.specs.Coordinator.{asked_in, hearing, is_last, is_not_dir}
 use Rattle.syn_headline.specs.Coordinator.{numbered, without}
-use Rattle.syn_headline.specs.Network.{IsRepeat, Left, Right, Which, is_side, other}
+use Rattle.syn_headline.specs.Network.{IsRepeat, Which, is_side, other}
 use Rattle.syn_headline.specs.Session.{BothBegun, WasAsked, WasTaken, entries_in, fault_of}
 use Rattle.syn_headline.specs.Side.{Begin, Begun, ListAt, Request}
 use Rattle.syn_headline.specs.Side as model
@@ -40,11 +40,11 @@ use Rattle.syn_session.proofs.HearLemmas.{found_still}
 use Rattle.syn_session.proofs.WaitingLemmas.{alone_is, asked_has, first_is, in_filter}
 use Rattle.syn_session.proofs.WaitingLemmas.{in_map, its_number, other_number, out_before}
 use Rattle.syn_session.proofs.WaitingLemmas.{out_still, same_directory, still_in-filter}
-use Rattle.syn_session.proofs.TellingLemmas.{either_false, either_nothing, list_not_begin}
+use Rattle.syn_session.proofs.TellingLemmas.{either_nothing, list_not_begin}
 use Rattle.syn_session.proofs.TellingLemmas.{not_across, other_side, scans_further, tells_nothing}
 use Rattle.syn_path.specs.Sides.{which_of}
 use Rattle.syn_path.specs.declared.side.Side.{Side}
-use Rattle.syn_model.proofs.BaseLemmas.{contains_none, contains_one, from_map}
+use Rattle.syn_model.proofs.BaseLemmas.{and_false, contains_none, contains_one, from_map}
 use Rattle.syn_headline.proofs.StagedLemmas.{on_both}
 
 not_true : (b : Bool) → not b ≡ true → b ≡ false
@@ -138,7 +138,7 @@ module _ (kept : archive.Archive) (before now : Session) (running : Running) (si
         (ap (λ (r : model.Reply). if is_side side side then entries_in r else 0) said
         ∙ either_nothing (is_side side side))
         (ap (λ (r : model.Reply). is_side side side && is_not_dir r) said
-        ∙ either_false (is_side side side))
+        ∙ and_false (is_side side side))
         (λ _ path e. list_not_begin path pair (sym e ∙ begin))))
         found_across
 
@@ -233,7 +233,7 @@ module _ (kept : archive.Archive) (before now : Session) (running : Running) (si
           waiting_of (peer_of later on) ≡ waiting_of (peer_of now on)
       waits_then on later asking =
           (asking.peer on).waits
-          ∙ (ap (λ rs. waiting_of (peer_of now on) ++ numbered (peer_of now on).asked rs)
+          ∙ (ap (λ rs. waiting_of (peer_of now on) ++ numbered (peer_of now on).next_number rs)
           (nothing on) ∙ append-nil (waiting_of (peer_of now on)))
 
       requests_then : (on : Which) (later : Session) → IsAsking now later asks →
@@ -270,10 +270,10 @@ module _ (kept : archive.Archive) (before now : Session) (running : Running) (si
           ])
 
       may_wait_on : (on : Which) → MayWait (waiting_of (peer_of now on)
-          ++ numbered (peer_of now on).asked (asks_of asks on))
+          ++ numbered (peer_of now on).next_number (asks_of asks on))
       may_wait_on on =
           subst MayWait (sym (ap (λ rs. waiting_of (peer_of now on)
-          ++ numbered (peer_of now on).asked rs) (nothing on)
+          ++ numbered (peer_of now on).next_number rs) (nothing on)
           ∙ append-nil (waiting_of (peer_of now on))))
           ((heard_so kept before now running number request reply is side answers).peer on).may
 
@@ -335,9 +335,10 @@ module _ (kept : archive.Archive) (before now : Session) (running : Running) (si
       waiting_same = on_both (λ on. (peer_of after on).waiting ≡ (peer_of now on).waiting) side
           keeps.waits (ap (λ (l : PeerState). l.waiting) keeps.across)
 
-      count_same : (on : Which) → (peer_of after on).asked ≡ (peer_of now on).asked
-      count_same = on_both (λ on. (peer_of after on).asked ≡ (peer_of now on).asked) side
-          keeps.count (ap (λ (l : PeerState). l.asked) keeps.across)
+      count_same : (on : Which) → (peer_of after on).next_number ≡ (peer_of now on).next_number
+      count_same = on_both (λ on. (peer_of after on).next_number ≡ (peer_of now on).next_number)
+          side
+          keeps.count (ap (λ (l : PeerState). l.next_number) keeps.across)
 
       listed_found : IsFoundOnBoth after heard.taken
       listed_found = on_both (λ on. IsFoundIn (found_on after on) on heard.taken) side found
@@ -362,13 +363,14 @@ module _ (kept : archive.Archive) (before now : Session) (running : Running) (si
                     count = (h.peer on).count ∙ sym (count_same on);
                     few = subst (λ n. n ≤ 2 ^ 32) (sym (count_same on)) (h.peer on).few;
                     of_session =
-                        subst (λ w. All (λ one. one.asked.value.session ≡ running.session) w.items)
+                        subst (λ w. All (λ one. one.message.value.session ≡ running.session)
+                        w.items)
                         (sym (waiting_same on)) (h.peer on).of_session;
                     rising = subst AreRising (sym (waits_same on)) (h.peer on).rising;
                     below =
                         subst (λ n. All (λ one. one.number < n) (waiting_of (peer_of after on)))
                         (sym (count_same on))
-                        (subst (λ w. All (λ one. one.number < (peer_of now on).asked) w)
+                        (subst (λ w. All (λ one. one.number < (peer_of now on).next_number) w)
                         (sym (waits_same on)) (h.peer on).below);
                     may = subst MayWait (sym (waits_same on)) (h.peer on).may;
                   };

@@ -35,15 +35,18 @@ use Rattle.syn_model.proofs.BaseLemmas.{from_map, contains_none}
 
 module _ (preference : Option Which) (peer : PeerState) (number pair : ℕ)
     (waits : waiting_of peer ≡ begin_of pair) (of : AreOfSession number peer)
-    (asked : peer.asked ≡ 1) where
+    (next : peer.next_number ≡ 1) where
   rising : AreRising (waiting_of peer)
   rising = subst AreRising (sym waits) (λ i j d before less. absurd (omega (arith, before, less)))
 
-  below : All (λ one. one.number < peer.asked) (waiting_of peer)
+  below : All (λ one. one.number < peer.next_number) (waiting_of peer)
   below =
-      subst (λ w. All (λ one. one.number < peer.asked) w) (sym waits)
-      (All-cons (λ one. one.number < peer.asked) (asks 0 (Begin pair)) [] (omega (arith, asked))
-      (All-nil (λ one. one.number < peer.asked)))
+      subst (λ w. All (λ one. one.number < peer.next_number) w) (sym waits)
+      (All-cons (λ one. one.number < peer.next_number) (asks 0 (Begin pair)) [] (omega (
+        arith,
+        next,
+      ))
+      (All-nil (λ one. one.number < peer.next_number)))
 
   may : MayWait (waiting_of peer)
   may = subst MayWait (sym waits) (inl (omega arith))
@@ -52,8 +55,8 @@ module _ (preference : Option Which) (peer : PeerState) (number pair : ℕ)
   begins_peer Left =
       record {
         waits = sym waits;
-        count = sym asked;
-        few = subst (λ n. n ≤ 2 ^ 32) (sym asked) (omega arith);
+        count = sym next;
+        few = subst (λ n. n ≤ 2 ^ 32) (sym next) (omega arith);
         of_session = of;
         rising = rising;
         below = below;
@@ -62,8 +65,8 @@ module _ (preference : Option Which) (peer : PeerState) (number pair : ℕ)
   begins_peer Right =
       record {
         waits = sym waits;
-        count = sym asked;
-        few = subst (λ n. n ≤ 2 ^ 32) (sym asked) (omega arith);
+        count = sym next;
+        few = subst (λ n. n ≤ 2 ^ 32) (sym next) (omega arith);
         of_session = of;
         rising = rising;
         below = below;
@@ -93,7 +96,7 @@ module _ (archive : model.Archive) (session : Session) (preference : Option Whic
     (scans : session.progress ≡ None)
     (waits : (side : Which) → waiting_of (peer_of session side) ≡ begin_of pair)
     (of : (side : Which) → AreOfSession number (peer_of session side))
-    (asked : (side : Which) → (peer_of session side).asked ≡ 1)
+    (next : (side : Which) → (peer_of session side).next_number ≡ 1)
     (found : (side : Which) → IsFoundIn (found_of (peer_of session side).scan) side [])
     (out : (side : Which) → out_of (peer_of session side).scan ≡ []) where
   pub session_begins : IsSession archive session (begun preference number pair)
@@ -102,7 +105,7 @@ module _ (archive : model.Archive) (session : Session) (preference : Option Whic
     preference = sym preferred;
     lawful = subst (λ n. n < 2 ^ 64) (sym numbered) lawful;
     peer = λ side. begins_peer preference (peer_of session side) number pair (waits side)
-        (of side) (asked side) side;
+        (of side) (next side) side;
     once =
         λ side m n a b was_m was_n _. only_begin preference number pair side m a was_m
         ∙ sym (only_begin preference number pair side n b was_n);
@@ -177,7 +180,7 @@ module _ (archive : model.Archive) (old new : Session) (taken : List Exchange) (
 pub record SentAgain (old new : PeerState) : Type 0 where
   pub waits : waiting_of new ≡ once_more (waiting_of old)
   pub of_session : (session : ℕ) → AreOfSession session old → AreOfSession session new
-  pub asked : new.asked ≡ old.asked
+  pub number : new.next_number ≡ old.next_number
   pub scan : new.scan ≡ old.scan
 
 same_requests : (waiting : List Outstanding) → map (λ (one : Outstanding). one.request)
@@ -209,13 +212,14 @@ module _ (archive : model.Archive) (old new : Session) (running : Running)
   waits_again Left = ap once_more (is.peer Left).waits ∙ sym (again Left).waits
   waits_again Right = ap once_more (is.peer Right).waits ∙ sym (again Right).waits
 
-  count_again : (side : Which) → asked_count (resent_once running) side ≡ (peer_of new side).asked
+  count_again : (side : Which)
+      → asked_count (resent_once running) side ≡ (peer_of new side).next_number
   count_again Left =
       ap (λ n. count_by (λ exchange. is_side Left exchange.side) running.taken + n)
-      (length-map running.left _) ∙ ((is.peer Left).count ∙ sym (again Left).asked)
+      (length-map running.left _) ∙ ((is.peer Left).count ∙ sym (again Left).number)
   count_again Right =
       ap (λ n. count_by (λ exchange. is_side Right exchange.side) running.taken + n)
-      (length-map running.right _) ∙ ((is.peer Right).count ∙ sym (again Right).asked)
+      (length-map running.right _) ∙ ((is.peer Right).count ∙ sym (again Right).number)
 
   was_asked : (side : Which) (n : ℕ) (a : Request) → WasAsked (resent_once running) side n a →
       WasAsked running side n a
@@ -226,12 +230,13 @@ module _ (archive : model.Archive) (old new : Session) (running : Running)
       inr (was.0, subst (λ l. Contains l (waits_as n a was.0)) (sym (is.peer side).waits) was.1)
 
   still_below : (side : Which) →
-      All (λ one. one.number < (peer_of new side).asked) (waiting_of (peer_of new side))
+      All (λ one. one.number < (peer_of new side).next_number) (waiting_of (peer_of new side))
   still_below side =
-      subst (λ w. All (λ one. one.number < (peer_of new side).asked) w) (sym (again side).waits)
-      (All-map (λ one. one.number < (peer_of new side).asked) once_later
+      subst (λ w. All (λ one. one.number < (peer_of new side).next_number) w) (sym (again
+      side).waits)
+      (All-map (λ one. one.number < (peer_of new side).next_number) once_later
       (waiting_of (peer_of old side)) (λ k d less. subst (λ n. (get_or (waiting_of
-      (peer_of old side)) k d).number < n) (sym (again side).asked)
+      (peer_of old side)) k d).number < n) (sym (again side).number)
       ((is.peer side).below k d less)))
 
   pub resent_so : IsSession archive new (resent_once running)
@@ -244,7 +249,7 @@ module _ (archive : model.Archive) (old new : Session) (running : Running)
         λ side. record {
           waits = waits_again side;
           count = count_again side;
-          few = subst (λ n. n ≤ 2 ^ 32) (sym (again side).asked) (is.peer side).few;
+          few = subst (λ n. n ≤ 2 ^ 32) (sym (again side).number) (is.peer side).few;
           of_session = (again side).of_session running.session (is.peer side).of_session;
           rising =
               subst AreRising (sym (again side).waits)

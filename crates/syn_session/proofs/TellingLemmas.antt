@@ -25,10 +25,6 @@ pub either_nothing : (b : Bool) → let n : ℕ = if b then 0 else 0 in n ≡ 0
 either_nothing true = refl
 either_nothing false = refl
 
-pub either_false : (b : Bool) → (b && false) ≡ false
-either_false true = refl
-either_false false = refl
-
 -- a path was answered as no directory where a side did so
 pub told_either : (taken : List Exchange) → (told_unstable taken Left || told_unstable taken Right)
     ≡ list_any (λ one. is_not_dir one.reply) taken

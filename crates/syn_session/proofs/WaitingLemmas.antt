@@ -161,20 +161,20 @@ alone_is (one ∷ next ∷ more) number request few is = absurd (omega (arith, f
 -- The code's list
 
 abbrev pub has_number : ℕ → UnansweredRequest → Bool
-has_number number one = one.asked.value.number == number
+has_number number one = one.message.value.number == number
 
 pub asks_at : (waiting : List UnansweredRequest) (i number : ℕ) (d : UnansweredRequest) →
     i < length waiting →
     has_number number (get_or waiting i d) ≡ true →
     ((k : ℕ) → k < i → has_number number (get_or waiting k d) ≡ false) →
     asked_in (map outstanding_of waiting) number
-    ≡ Some (request_of (get_or waiting i d).asked.value.request)
+    ≡ Some (request_of (get_or waiting i d).message.value.request)
 asks_at [] i number d less same before = absurd (omega (arith, less))
 asks_at (one ∷ more) zero number d less same before =
-    ap (λ b. if b then Some (request_of one.asked.value.request)
+    ap (λ b. if b then Some (request_of one.message.value.request)
     else asked_in (map outstanding_of more) number) same
 asks_at (one ∷ more) (suc i) number d less same before =
-    ap (λ b. if b then Some (request_of one.asked.value.request)
+    ap (λ b. if b then Some (request_of one.message.value.request)
     else asked_in (map outstanding_of more) number) (before 0 (omega arith))
     ∙ asks_at more i number d (omega (arith, less)) same
     (λ k l. before (suc k) (omega (arith, l)))
@@ -188,7 +188,7 @@ pub removed_at : (waiting : List UnansweredRequest) (i number : ℕ) (d : Unansw
 removed_at [] i number d less same before rising = absurd (omega (arith, less))
 removed_at (one ∷ more) zero number d less same before rising =
     let above = subst (λ n. All (λ later. n < later.number) (map outstanding_of more))
-    (eqb-true one.asked.value.number number same)
+    (eqb-true one.message.value.number number same)
     (later_above (outstanding_of one) (map outstanding_of more) rising) in
     sym (ap (λ b. cond (not b) (outstanding_of one ∷ without number (map outstanding_of more))
     (without number (map outstanding_of more))) same
@@ -208,7 +208,7 @@ none_has [] number e = refl
 none_has (one ∷ more) number e =
     elim (has_number number one) as (λ b.
     nat_lt (cond (not b) (1 + position_or_len (has_number number) more) 0)
-    (suc (length more)) ≡ false → (if b then Some (request_of one.asked.value.request)
+    (suc (length more)) ≡ false → (if b then Some (request_of one.message.value.request)
     else asked_in (map outstanding_of more) number) ≡ None) [
       | true ↦ λ e. absurd (first_less (length more) e)
       | false ↦ λ e. none_has more number (less _ _ e)
@@ -359,10 +359,10 @@ resent_waits (one ∷ more) =
     ap (λ l. once_later (outstanding_of one) ∷ l) (resent_waits more)
 
 pub resent_of : (session : ℕ) (waiting : List UnansweredRequest) →
-    All (λ one. one.asked.value.session ≡ session) waiting →
-    All (λ one. one.asked.value.session ≡ session) (map sent_again waiting)
+    All (λ one. one.message.value.session ≡ session) waiting →
+    All (λ one. one.message.value.session ≡ session) (map sent_again waiting)
 resent_of session waiting all =
-    All-map (λ one. one.asked.value.session ≡ session) sent_again waiting all
+    All-map (λ one. one.message.value.session ≡ session) sent_again waiting all
 
 pub written_back : (n : ℕ) (now was : List UnansweredRequest) → length now ≡ length was →
     n ≡ length was →
@@ -389,18 +389,18 @@ pub asked_more : (session : ℕ) (old between new : PeerState) (first second : L
 asked_more session old between new first second a b = record {
   waits =
       b.waits ∙ (ap₂ (λ w n. w ++ numbered n second) a.waits a.count
-      ∙ (append_assoc (waiting_of old) (numbered old.asked first)
-      (numbered (old.asked + length first) second)
-      ∙ ap (λ l. waiting_of old ++ l) (sym (numbered-append old.asked first second))));
+      ∙ (append_assoc (waiting_of old) (numbered old.next_number first)
+      (numbered (old.next_number + length first) second)
+      ∙ ap (λ l. waiting_of old ++ l) (sym (numbered-append old.next_number first second))));
   count =
       let one = a.count in
       let two = b.count in
       let long = length-append first second in
       omega (arith, one, two, long);
   few =
-      elim b.few as (λ _. (first ++ second ≡ []) ⊎ (new.asked ≤ 2 ^ 32)) [
+      elim b.few as (λ _. (first ++ second ≡ []) ⊎ (new.next_number ≤ 2 ^ 32)) [
         | inr few ↦ inr few
-        | inl none ↦ elim a.few as (λ _. (first ++ second ≡ []) ⊎ (new.asked ≤ 2 ^ 32)) [
+        | inl none ↦ elim a.few as (λ _. (first ++ second ≡ []) ⊎ (new.next_number ≤ 2 ^ 32)) [
           | inl nothing ↦ inl (ap₂ (λ l m. l ++ m) nothing none)
           | inr few ↦
               let two = b.count in
@@ -425,8 +425,8 @@ sent_more session to count first second =
 
 -- a request that is taken out leaves those of the session
 pub taken_of : (session : ℕ) (waiting : List UnansweredRequest) (i : ℕ) → i < length waiting →
-    All (λ one. one.asked.value.session ≡ session) waiting →
-    All (λ one. one.asked.value.session ≡ session) (remove waiting i)
+    All (λ one. one.message.value.session ≡ session) waiting →
+    All (λ one. one.message.value.session ≡ session) (remove waiting i)
 taken_of session [] i less all k d within = absurd (omega (arith, less))
 taken_of session (one ∷ more) zero less all k d within =
     all (suc k) d (omega (arith, within))
@@ -436,10 +436,10 @@ taken_of session (one ∷ more) (suc i) less all (suc k) d within =
     (omega (arith, within))
 
 pub sent_of : (session : ℕ) (side : Which) (waiting : List UnansweredRequest) →
-    All (λ one. one.asked.value.session ≡ session) waiting →
+    All (λ one. one.message.value.session ≡ session) waiting →
     map (message_waiting side) waiting ≡ messages_to session side (map outstanding_of waiting)
 sent_of session side [] all = refl
 sent_of session side (one ∷ more) all =
-    ap₂ (λ s l. Asks side s one.asked.value.number (request_of one.asked.value.request) ∷ l)
+    ap₂ (λ s l. Asks side s one.message.value.number (request_of one.message.value.request) ∷ l)
     (all 0 one (omega arith))
     (sent_of session side more (λ n d l. all (suc n) d (omega (arith, l))))

@@ -21,7 +21,7 @@ pub record IsAnswering (old new : Session) (side : Which) (number : ℕ) (reques
     : Type 0 where
   pub asked : asked_in (waiting_of (peer_of old side)) number ≡ Some request
   pub taken : HasTaken (peer_of old side) (peer_of new side) number
-  pub count : (peer_of new side).asked ≡ (peer_of old side).asked
+  pub count : (peer_of new side).next_number ≡ (peer_of old side).next_number
   pub scan : (peer_of new side).scan ≡ (peer_of old side).scan
   pub across : peer_of new (other side) ≡ peer_of old (other side)
   pub number_is : new.number ≡ old.number
@@ -47,7 +47,7 @@ asks_alone to.Right Right request = request ∷ []
 abbrev pub asks_of : Asks → Which → List Request
 asks_of (Listings left right) Left = map ListAt left.items
 asks_of (Listings left right) Right = map ListAt right.items
-asks_of (One asked) side = asks_alone asked.to side (request_of asked.request)
+asks_of (One wanted) side = asks_alone wanted.to side (request_of wanted.request)
 
 -- an answer of a side, to what it was asked
 abbrev pub exchange_of : Which → ℕ → Request → Reply → Exchange
@@ -56,13 +56,13 @@ exchange_of side number request reply =
 
 -- the side is asked for what comes now, in that session
 pub record IsAskedOn (session : ℕ) (old new : PeerState) (requests : List Request) : Type 0 where
-  pub waits : waiting_of new ≡ waiting_of old ++ numbered old.asked requests
-  pub count : new.asked ≡ old.asked + length requests
-  pub few : (requests ≡ []) ⊎ (new.asked ≤ 2 ^ 32)
+  pub waits : waiting_of new ≡ waiting_of old ++ numbered old.next_number requests
+  pub count : new.next_number ≡ old.next_number + length requests
+  pub few : (requests ≡ []) ⊎ (new.next_number ≤ 2 ^ 32)
   pub of_session : AreOfSession session old → AreOfSession session new
   pub scan : new.scan ≡ old.scan
 
 abbrev pub messages_asked : Session → Asks → List Message
 messages_asked session asks =
-    messages_to session.number Left (numbered session.left.asked (asks_of asks Left))
-    ++ messages_to session.number Right (numbered session.right.asked (asks_of asks Right))
+    messages_to session.number Left (numbered session.left.next_number (asks_of asks Left))
+    ++ messages_to session.number Right (numbered session.right.next_number (asks_of asks Right))

@@ -25,10 +25,10 @@ pub record IsCarriedOut (progress : PlanProgress) (left right : Found) (all : Li
 
 -- the transfer asks for this
 abbrev pub AsksFor : Transfer → List Exchange → SideRequest → Type 0
-AsksFor transfer taken asked =
-    TransferAsks transfer taken (which_of asked.to) (request_of asked.request)
+AsksFor transfer taken wanted =
+    TransferAsks transfer taken (which_of wanted.to) (request_of wanted.request)
 
 -- and for no listing
 abbrev pub AsksOne : Transfer → List Exchange → Asks → Type 0
 AsksOne transfer taken (Listings left right) = ⊥
-AsksOne transfer taken (One asked) = AsksFor transfer taken asked
+AsksOne transfer taken (One wanted) = AsksFor transfer taken wanted

@@ -20,16 +20,16 @@ IsDoing progress left right has.Nothing = slice_get (plan_in progress left right
 IsDoing progress left right (has.Conflict path) = (planned : Planned)
     × (slice_get (plan_in progress left right) progress.cursor ≡ Some planned)
     × (planned.item ≡ Conflict path)
-IsDoing progress left right (has.Mark kept) = (planned : Planned)
+IsDoing progress left right (has.Mark item_record) = (planned : Planned)
     × (slice_get (plan_in progress left right) progress.cursor ≡ Some planned)
     × (is_carrying planned.item ≡ false)
-    × ((taken : Exchange) → IsDue progress.cursor planned taken (kept_for kept))
-IsDoing progress left right (has.Carry carried) = (planned : Planned)
+    × ((taken : Exchange) → IsDue progress.cursor planned taken (kept_for item_record))
+IsDoing progress left right (has.Carry carrying) = (planned : Planned)
     × (slice_get (plan_in progress left right) progress.cursor ≡ Some planned)
-    × IsCarriageOf (spec_of carried.transfer) planned progress.cursor
-    × (record_for planned planned.item ≡ Some (kept_for carried.kept))
+    × IsCarriageOf (spec_of carrying.transfer) planned progress.cursor
+    × (record_for planned planned.item ≡ Some (kept_for carrying.item_record))
 
 -- what is to be carried has asked for nothing yet
 abbrev pub BeginsAnew : Doing → Type 0
-BeginsAnew (has.Carry carried) = IsReady carried.transfer
+BeginsAnew (has.Carry carrying) = IsReady carrying.transfer
 BeginsAnew _ = Unit {0}

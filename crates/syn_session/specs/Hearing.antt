@@ -34,7 +34,7 @@ pub record IsAsking (old new : Session) (asks : Asks) : Type 0 where
 pub record MayGoOn (archive : model.Archive) (session : Session) (heard : Running) (asks : Asks)
     : Type 0 where
   pub may_wait : (side : Which) → MayWait (waiting_of (peer_of session side)
-      ++ numbered (peer_of session side).asked (asks_of asks side))
+      ++ numbered (peer_of session side).next_number (asks_of asks side))
   pub fresh : (side : Which) (request : Request) → Contains (asks_of asks side) request
       → IsFresh heard side request
   pub apart : (side : Which) → AllPairs (λ one other. ¬ IsRepeat one other) (asks_of asks side)

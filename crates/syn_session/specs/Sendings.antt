@@ -9,17 +9,17 @@ use Rattle.syn_session.specs.declared.requests.UnansweredRequest.{UnansweredRequ
 use Rattle.syn_session.specs.declared.sending.Sending.{Sending}
 
 abbrev pub message_to : Which → RequestMessage → Message
-message_to side asked = Asks side asked.session asked.number (request_of asked.request)
+message_to side message = Asks side message.session message.number (request_of message.request)
 
 abbrev pub message_of : Sending → Message
-message_of sending = message_to (which_of sending.to) sending.asked.value
+message_of sending = message_to (which_of sending.to) sending.message.value
 
 abbrev pub messages_of : List Sending → List Message
 messages_of sends = map message_of sends
 
 -- what is sent of the requests that wait on a side
 abbrev pub message_waiting : Which → UnansweredRequest → Message
-message_waiting side one = message_to side one.asked.value
+message_waiting side one = message_to side one.message.value
 
 abbrev pub messages_waiting : Which → PeerState → List Message
 messages_waiting side peer = map (message_waiting side) peer.waiting.items

@@ -42,11 +42,11 @@ is_worn_out waiting = list_any (λ one. nat_le most_resends one.resent) waiting
 -- what waits on the side is what its state has, and so many requests were sent there
 pub record IsPeer (peer : PeerState) (running : Running) (side : Which) : Type 0 where
   pub waits : outstanding running side ≡ waiting_of peer
-  pub count : asked_count running side ≡ peer.asked
-  pub few : peer.asked ≤ 2 ^ 32
+  pub count : asked_count running side ≡ peer.next_number
+  pub few : peer.next_number ≤ 2 ^ 32
   pub of_session : AreOfSession running.session peer
   pub rising : AreRising (waiting_of peer)
-  pub below : All (λ one. one.number < peer.asked) (waiting_of peer)
+  pub below : All (λ one. one.number < peer.next_number) (waiting_of peer)
   pub may : MayWait (waiting_of peer)
 
 -- it scans both sides, or it goes through its plan

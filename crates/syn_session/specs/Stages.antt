@@ -24,7 +24,7 @@ use Rattle.syn_refusal.specs.Refusals.{cause_of}
 use Rattle.syn_scan.specs.Found.{Found, scan_of}
 use Rattle.syn_session.specs.Plans.{AreRecordedBefore, Plan, planned_all, recorded_count}
 use Rattle.syn_session.specs.Scanning.{IsFoundIn, WaitsFor, found_of}
-use Rattle.syn_session.specs.declared.plan_progress.Carried.{Carried}
+use Rattle.syn_session.specs.declared.plan_progress.Carrying.{Carrying}
 use Rattle.syn_session.specs.declared.plan_progress.PlanProgress.{PlanProgress}
 use Rattle.syn_session.specs.declared.peer.PeerState.{PeerState}
 use Rattle.syn_session.specs.declared.requests.UnansweredRequest.{UnansweredRequest}
@@ -33,8 +33,8 @@ use Rattle.syn_image.specs.Archives.{kept_for}
 
 abbrev pub outstanding_of : UnansweredRequest → Outstanding
 outstanding_of waiting = record {
-  number = waiting.asked.value.number;
-  request = request_of waiting.asked.value.request;
+  number = waiting.message.value.number;
+  request = request_of waiting.message.value.request;
   resent = waiting.resent;
 }
 
@@ -44,7 +44,7 @@ waiting_of peer = map outstanding_of peer.waiting.items
 
 -- each request that waits on the side is one of that session
 abbrev pub AreOfSession : ℕ → PeerState → Type 0
-AreOfSession session peer = All (λ one. one.asked.value.session ≡ session) peer.waiting.items
+AreOfSession session peer = All (λ one. one.message.value.session ≡ session) peer.waiting.items
 
 abbrev pub requests_on : PeerState → List Request
 requests_on peer = map (λ one. one.request) (waiting_of peer)
@@ -168,23 +168,23 @@ pub record IsCarriageOf (spec : TransferSpec) (planned : Planned) (item : ℕ) :
   pub target_since : spec.target_since ≡ (seen_on planned (target_of spec)).since
 
 -- it is carried for the item, and the archive does not refuse its record
-pub record IsCarriedFor (archive : model.Archive) (carried : Carried) (planned : Planned)
+pub record IsCarriedFor (archive : model.Archive) (carrying : Carrying) (planned : Planned)
     (item : ℕ) : Type 0 where
-  pub spec : IsCarriageOf (spec_of carried.transfer) planned item
-  pub record_is : record_for planned planned.item ≡ Some (kept_for carried.kept)
-  pub can : kept_refusal archive (kept_for carried.kept) ≡ None
+  pub spec : IsCarriageOf (spec_of carrying.transfer) planned item
+  pub record_is : record_for planned planned.item ≡ Some (kept_for carrying.item_record)
+  pub can : kept_refusal archive (kept_for carrying.item_record) ≡ None
 
 -- the item at the cursor is carried, by a transfer of which this holds
 pub record Carries (archive : model.Archive) (progress : PlanProgress) (left right : Found)
     (taken : List Exchange) (reached : Reached) (Is : Transfer → Type 0) : Type 0 where
   pub course_is : IsPlanProgress progress left right reached
-  pub carried : Carried
-  pub is_carried : progress.carried ≡ Some carried
+  pub carrying : Carrying
+  pub is_carried : progress.carrying ≡ Some carrying
   pub planned : Planned
   pub at : slice_get (plan_in progress left right) progress.cursor ≡ Some planned
-  pub carries : IsCarriedFor archive carried planned progress.cursor
+  pub carries : IsCarriedFor archive carrying planned progress.cursor
   pub asked : AreAskedBefore (plan_in progress left right) (suc progress.cursor) taken
-  pub is : Is carried.transfer
+  pub is : Is carrying.transfer
 
 -- and waits for the answer to one request
 pub record IsCarrying (archive : model.Archive) (session : Session) (progress : PlanProgress)

@@ -1,10 +1,10 @@
 //! What is to be done for an item of the plan.
-ghost use Rattle.std.specs.Prelude.{◌≡◌, IfOk};
+ghost use Rattle.std.specs.Prelude.{IfOk};
 ghost use Rattle.syn_recon.specs.Items.{item_of};
 ghost use Rattle.syn_session.specs.Doings.{BeginsAnew};
 ghost use Rattle.syn_session.specs.inner.Items.{IsDoingFor, IsMarked};
 
-use crate::plan_progress::{Carried, PlanProgress};
+use crate::plan_progress::{Carrying, PlanProgress};
 use std::alloc::{AllocError, Global};
 use syn_image::ItemRecord;
 use syn_model::plan_laws;
@@ -22,7 +22,7 @@ pub enum Doing {
     /// The archive is to have what both sides have.
     Mark(ItemRecord),
     /// A side is to have what the other has.
-    Carry(Carried),
+    Carry(Carrying),
 }
 
 impl PlanProgress {
@@ -59,12 +59,12 @@ pub(crate) fn doing_for(
         Item::MarkSame(path) => mark(alloc, path, left),
         Item::MarkDir(path) => Ok(Doing::Mark(ItemRecord::Dir(path.copy(alloc)?))),
         Item::ToLeft(path) => {
-            let carried = Carried::new(alloc, Side::Right, number, path, right, left)?;
-            Ok(Doing::Carry(carried))
+            let carrying = Carrying::new(alloc, Side::Right, number, path, right, left)?;
+            Ok(Doing::Carry(carrying))
         }
         Item::ToRight(path) => {
-            let carried = Carried::new(alloc, Side::Left, number, path, left, right)?;
-            Ok(Doing::Carry(carried))
+            let carrying = Carrying::new(alloc, Side::Left, number, path, left, right)?;
+            Ok(Doing::Carry(carrying))
         }
     }
 }

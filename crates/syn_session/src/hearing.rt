@@ -1,8 +1,8 @@
 //! What a session that scans comes to with an answer.
 ghost use Rattle.std.specs.Prelude.{◌≡◌, ℕ, None, Some, IfOk, MatchResult};
-ghost use Rattle.std.specs.Prelude.{◌&&◌, length, nat_lt};
+ghost use Rattle.std.specs.Prelude.{◌&&◌};
 ghost use Rattle.syn_headline.specs.Coordinator.{Running};
-ghost use Rattle.syn_headline.specs.Network.{Which, other};
+ghost use Rattle.syn_headline.specs.Network.{Which};
 ghost use Rattle.syn_headline.specs.Session.{fault_of};
 ghost use Rattle.syn_headline.specs.Side.{Begin, Begun, ListAt};
 ghost use Rattle.syn_message.specs.Replies.{IsLawfulReply, reply_of};
@@ -33,7 +33,6 @@ impl Session {
     ghost use Rattle.syn_session.specs.Answering.{IsAnswering};
     ghost use Rattle.syn_session.specs.Hearing.{Hears};
     ghost use Rattle.syn_session.specs.Sessions.{IsSession};
-    ghost use Rattle.syn_session.specs.Stages.{peer_of, waiting_of};
     ghost use Rattle.syn_session.specs.declared.session.Session.{Session as Ran};
     ghost use Rattle.syn_session.specs.inner.Listing.{KeepsFound, ScansNext};
 
@@ -67,7 +66,8 @@ impl Session {
             → Hears self.new running (which_of from) number (Begin pair) (reply_of reply) result }
     {
         check_begun(reply)?;
-        if self.waits_across(from) {
+        // The other side has not begun yet, and nothing is listed before both have.
+        if self.waits_on(from.other()) {
             return Ok(Heard::Ask(Asks::Listings {
                 left: Vec::new(alloc),
                 right: Vec::new(alloc),
@@ -94,17 +94,6 @@ impl Session {
     {
         self.take_listing(alloc, from, path, reply)?;
         self.scan_on(alloc).map_err(|_| Refusal::Memory)
-    }
-
-    /// Whether a request waits on the other side.
-    fn waits_across(&self, side: Side) -> bool
-        ensures { result ≡ nat_lt 0 (length (waiting_of (peer_of self.now
-            (other (which_of side))))) }
-    {
-        match side {
-            Side::Left => self.right.is_waiting(),
-            Side::Right => self.left.is_waiting(),
-        }
     }
 
     /// Takes the answer of a side to what a session asks before it has its plan. It gives what is

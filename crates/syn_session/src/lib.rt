@@ -36,11 +36,11 @@
 //!     answered yet (`new`) and whose listing does not wait (`unasked`); none where there is no
 //!     such directory (`none`).
 //!   - `take` adds an answer to the scan (`step`). It needs a path whose listing waits, and that
-//!     waits no more afterwards (`out`). It is refused with what ends the session, or 11. `scan`
+//!     waits no more afterwards (`out`). It is refused with what ends the session, or 11. `so_far`
 //!     shows the scan so far.
 #![tactic(auto)]
 
-mod carried;
+mod carrying;
 mod doing;
 mod hearing;
 mod passing;
@@ -56,7 +56,7 @@ mod side_scan;
 pub use doing::Doing;
 pub use hearing::Heard;
 pub use peer::PeerState;
-pub use plan_progress::{Carried, PlanProgress};
+pub use plan_progress::{Carrying, PlanProgress};
 pub use report::{End, Report};
 pub use requests::{MOST_RESENDS, UnansweredRequest};
 pub use sending::Sending;

@@ -30,7 +30,7 @@ pub struct PeerState {
     /// In rising number.
     pub waiting: Vec<UnansweredRequest>,
     /// How many requests were sent there, resends aside.
-    pub(crate) asked: u64,
+    pub(crate) next_number: u64,
     pub scan: SideScan,
 }
 
@@ -45,7 +45,7 @@ impl PeerState {
     pub(crate) fn new(alloc: Global, session: u64, pair: u64) -> Result<PeerState, AllocError>
         ensures waits { IfOk result (λ peer. waiting_of peer ≡ begin_of pair) }
         ensures of_session { IfOk result (AreOfSession session) }
-        ensures asked { IfOk result (λ peer. peer.asked ≡ 1) }
+        ensures number { IfOk result (λ peer. peer.next_number ≡ 1) }
         ensures found { (side : Which)
             → IfOk result (λ peer. IsFoundIn (found_of peer.scan) side []) }
         ensures out { IfOk result (λ peer. out_of peer.scan ≡ []) }
@@ -55,22 +55,23 @@ impl PeerState {
         let scan = SideScan::new(alloc)?;
         Ok(PeerState {
             waiting,
-            asked: 1,
+            next_number: 1,
             scan,
         })
     }
 
-    /// The request that waits for the answer of that number, which has come; none where none does.
+    /// Takes out the request that waits for the answer of that number. None where no such request
+    /// waits.
     pub(crate) fn take_waiting(&mut self, number: u32) -> Option<Rc<RequestMessage>>
-        ensures request { option_map (λ asked. request_of asked.value.request) result
+        ensures request { option_map (λ message. request_of message.value.request) result
             ≡ asked_in (waiting_of self.old) number }
         ensures some { IfSome result (λ _. HasTaken self.old self.new number) }
         ensures none { result ≡ None → self.new ≡ self.old }
-        ensures asked { self.new.asked ≡ self.old.asked }
+        ensures number { self.new.next_number ≡ self.old.next_number }
         ensures scan { self.new.scan ≡ self.old.scan }
     {
         match index_of(&self.waiting, number) {
-            Some(at) => Some(self.waiting.remove(at).asked),
+            Some(at) => Some(self.waiting.remove(at).message),
             None => None,
         }
     }
@@ -87,7 +88,7 @@ impl PeerState {
     pub(crate) fn next_listings(&mut self, alloc: Global) -> Result<Vec<Path>, AllocError>
         ensures next { IfOk result (λ paths. ListsNext self.old self.new paths.items) }
         ensures waits { self.new.waiting ≡ self.old.waiting }
-        ensures asked { self.new.asked ≡ self.old.asked }
+        ensures number { self.new.next_number ≡ self.old.next_number }
         ensures found { found_of self.new.scan ≡ found_of self.old.scan }
     {
         let mut next = Vec::new(alloc);
@@ -117,15 +118,15 @@ impl PeerState {
         ensures scan { self.new.scan ≡ self.old.scan }
         ensures ok { OnOk result (messages_of sends.new.items ≡ messages_of sends.old.items
             ++ messages_to session (which_of to)
-            (numbered self.old.asked (request_of request ∷ []))) }
+            (numbered self.old.next_number (request_of request ∷ []))) }
     {
-        if self.asked >= MOST_REQUESTS {
+        if self.next_number >= MOST_REQUESTS {
             return Err(AllocError);
         }
-        let one = UnansweredRequest::new(alloc, session, self.asked as u32, request)?;
+        let one = UnansweredRequest::new(alloc, session, self.next_number as u32, request)?;
         let sending = one.sending(to)?;
         self.waiting.push(one)?;
-        self.asked += 1;
+        self.next_number += 1;
         sends.push(sending)?;
         Ok(())
     }
@@ -145,7 +146,7 @@ impl PeerState {
         ensures scan { self.new.scan ≡ self.old.scan }
         ensures ok { OnOk result (messages_of sends.new.items ≡ messages_of sends.old.items
             ++ messages_to session (which_of to)
-            (numbered self.old.asked (map ListAt paths.items))) }
+            (numbered self.old.next_number (map ListAt paths.items))) }
     {
         for path in paths {
             self.ask(alloc, sends, to, session, Request::List { path })?;
@@ -177,7 +178,7 @@ impl PeerState {
         ensures waits { waiting_of self.new ≡ once_more (waiting_of self.old) }
         ensures of_session { (session : ℕ) → AreOfSession session self.old
             → AreOfSession session self.new }
-        ensures asked { self.new.asked ≡ self.old.asked }
+        ensures number { self.new.next_number ≡ self.old.next_number }
         ensures scan { self.new.scan ≡ self.old.scan }
     {
         count_resends(&mut self.waiting);

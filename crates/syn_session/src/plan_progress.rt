@@ -19,9 +19,9 @@ const MOST_ITEMS: usize = 0xffff_ffff;
 
 /// What is carried for an item, and what the archive is to have once that is done.
 #[derive(Debug, Drop)]
-pub struct Carried {
+pub struct Carrying {
     pub transfer: Transfer,
-    pub kept: ItemRecord,
+    pub item_record: ItemRecord,
 }
 
 /// The plan of a session, the item that it has come to, and what became of those before.
@@ -30,7 +30,7 @@ pub struct PlanProgress {
     pub items: Vec<Item>,
     pub cursor: u32,
     /// What is carried for the item at the cursor, while the session waits for an answer.
-    pub carried: Option<Carried>,
+    pub carrying: Option<Carrying>,
     /// How many items were carried to the other side and recorded.
     pub(crate) done: u32,
     /// How many items were recorded since both sides agreed already.
@@ -69,7 +69,7 @@ impl PlanProgress {
         Ok(PlanProgress {
             items,
             cursor: 0,
-            carried: None,
+            carrying: None,
             done: 0,
             marked: 0,
             conflicts: Vec::new(alloc),

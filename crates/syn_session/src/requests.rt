@@ -19,7 +19,7 @@ pub const MOST_RESENDS: u8 = 8;
 #[derive(Debug, Drop)]
 pub struct UnansweredRequest {
     /// It was sent so, and is sent again as it is.
-    pub(crate) asked: Rc<RequestMessage>,
+    pub(crate) message: Rc<RequestMessage>,
     /// How often it was sent again.
     pub(crate) resent: u8,
 }
@@ -38,7 +38,7 @@ impl UnansweredRequest {
         request: Request,
     ) -> Result<UnansweredRequest, AllocError>
         ensures asks { IfOk result (λ one. outstanding_of one ≡ asks number (request_of request)) }
-        ensures session { IfOk result (λ one. one.asked.value.session ≡ session) }
+        ensures session { IfOk result (λ one. one.message.value.session ≡ session) }
     {
         let message = RequestMessage {
             session,
@@ -46,7 +46,7 @@ impl UnansweredRequest {
             request,
         };
         Ok(UnansweredRequest {
-            asked: Rc::new(alloc, message)?,
+            message: Rc::new(alloc, message)?,
             resent: 0,
         })
     }
@@ -58,7 +58,7 @@ impl UnansweredRequest {
     {
         Ok(Sending {
             to,
-            asked: self.asked.clone()?,
+            message: self.message.clone()?,
         })
     }
 
@@ -80,9 +80,9 @@ impl UnansweredRequest {
 
 /// Where the request of that number stands among these; none where none has it.
 pub(crate) fn index_of(waiting: &[UnansweredRequest], number: u32) -> Option<usize>
-    ensures { result ≡ position (λ one. one.asked.value.number == number) waiting.now }
+    ensures { result ≡ position (λ one. one.message.value.number == number) waiting.now }
 {
-    waiting.iter().position(|one| one.asked.number == number)
+    waiting.iter().position(|one| one.message.number == number)
 }
 
 /// Whether one of these was sent again as often as it may be.

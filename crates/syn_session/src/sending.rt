@@ -8,5 +8,5 @@ use syn_path::Side;
 #[derive(Debug, Drop)]
 pub struct Sending {
     pub to: Side,
-    pub asked: Rc<RequestMessage>,
+    pub message: Rc<RequestMessage>,
 }

@@ -33,7 +33,7 @@ use syn_refusal::Refusal;
 #[derive(Debug, Drop)]
 pub struct Session {
     pub number: u64,
-    /// The side that goes to the other where both changed.
+    /// The side whose change wins where both changed.
     pub preference: Option<Side>,
     pub left: PeerState,
     pub right: PeerState,
@@ -87,14 +87,6 @@ impl Session {
         })
     }
 
-    /// How many items its plan has, once that is made.
-    pub fn planned(&self) -> Option<usize>
-        ensures { result ≡ option_map (λ progress. length progress.items.items) self.now.progress }
-    {
-        let progress = self.progress.as_ref()?;
-        Some(progress.items.len())
-    }
-
     /// The requests that wait, for the left and then for the right. Refused 11 where memory is
     /// refused.
     pub fn waiting(&self, alloc: Global) -> Result<Vec<Sending>, AllocError>
@@ -127,16 +119,16 @@ impl Session {
         self.right.count_resend();
     }
 
-    /// Takes out the request that waits for the answer of that number from the side, in that
-    /// session; none where none does.
+    /// Takes out the request that waits for the answer of that number from the side, if it is of
+    /// that session. None where no such request waits.
     pub fn take_waiting(
         &mut self,
         from: Side,
         session: u64,
         number: u32,
     ) -> Option<Rc<RequestMessage>>
-        ensures some { IfSome result (λ asked. (self.old.number ≡ session) × IsAnswering self.old
-            self.new (which_of from) number (request_of asked.value.request)) }
+        ensures some { IfSome result (λ message. (self.old.number ≡ session) × IsAnswering self.old
+            self.new (which_of from) number (request_of message.value.request)) }
         ensures none { result ≡ None → (self.new ≡ self.old) × (self.old.number ≡ session
             → asked_in (waiting_of (peer_of self.old (which_of from))) number ≡ None) }
     {
@@ -228,9 +220,9 @@ impl Session {
         ensures progress { self.new.progress ≡ self.old.progress }
         ensures sends { IfOk result (λ sends. messages_of sends.items
             ≡ messages_to self.old.number Left
-            (numbered self.old.left.asked (map ListAt left.items))
+            (numbered self.old.left.next_number (map ListAt left.items))
             ++ messages_to self.old.number Right
-            (numbered self.old.right.asked (map ListAt right.items))) }
+            (numbered self.old.right.next_number (map ListAt right.items))) }
     {
         let mut sends = Vec::new(alloc);
         self.left
@@ -258,7 +250,7 @@ impl Session {
         ensures progress { self.new.progress ≡ self.old.progress }
         ensures sends { IfOk result (λ sends. messages_of sends.items
             ≡ messages_to self.old.number (which_of side)
-            (numbered (peer_of self.old (which_of side)).asked (request_of request ∷ []))) }
+            (numbered (peer_of self.old (which_of side)).next_number (request_of request ∷ []))) }
     {
         let mut sends = Vec::new(alloc);
         match side {
@@ -322,7 +314,7 @@ fn planned_report(
     ensures refused { result.refused ≡ progress.refused }
 {
     drop(progress.items);
-    drop(progress.carried);
+    drop(progress.carrying);
     Report {
         session: number,
         end: end_for(ended, progress.refused.len(), has_unstable_path),

@@ -94,7 +94,7 @@ impl SideScan {
     }
 
     /// What the side showed so far: its scan, once each directory was answered.
-    pub fn scan(&self) -> &Scan
+    pub fn so_far(&self) -> &Scan
         ensures found { result.now ≡ found_of self.now }
 
         // It is then the scan by what the side answered.
@@ -110,7 +110,7 @@ impl SideScan {
     pub(crate) fn has_unstable_path(&self, alloc: Global) -> bool
         ensures { result ≡ shows_unstable (found_of self.now) }
     {
-        self.scan().unstable(&Path::root(alloc))
+        self.so_far().unstable(&Path::root(alloc))
     }
 
     /// The scan, once each directory was answered. It takes no memory.

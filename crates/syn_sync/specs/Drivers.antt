@@ -1,4 +1,4 @@
--- A driver as its contracts see it: for each side, its link, and what is read and written there.
+-- A driver as its contracts see it: each side's connection, and what is read and written there.
 use Rattle.std.specs.Prelude.{Option}
 use Rattle.syn_headline.specs.Network.{Left, Right, Which}
 use Rattle.syn_link.specs.Frames.{Bytes}
@@ -14,12 +14,12 @@ abbrev pub Outlets : Type 0
 Outlets = Which → Outlet
 
 module _ {R W : Type 0} where
-  abbrev pub link_at : Driver R W → Which → SessionConnection R W
-  link_at driver Left = driver.left
-  link_at driver Right = driver.right
+  abbrev pub connection_at : Driver R W → Which → SessionConnection R W
+  connection_at driver Left = driver.left
+  connection_at driver Right = driver.right
 
   abbrev pub states_of : (R → Option Bytes) → Driver R W → ConnectionStates
-  states_of remaining driver side = state_of remaining (link_at driver side)
+  states_of remaining driver side = state_of remaining (connection_at driver side)
 
   abbrev pub outlets_of : (W → Option Bytes) → Driver R W → Outlets
-  outlets_of contents driver side = outlet_of contents (link_at driver side)
+  outlets_of contents driver side = outlet_of contents (connection_at driver side)

@@ -1,4 +1,4 @@
-//! A session over two links.
+//! A session over two connections.
 ghost use Rattle.std.specs.Prelude.{◌≡◌, [], ℕ, true, false, IfErr, IfSome, MatchResult, OnOk};
 ghost use Rattle.std.specs.Prelude.{Some, option_map};
 ghost use Rattle.syn_disk.specs.Arms.{is_stopped};
@@ -11,7 +11,7 @@ ghost use Rattle.syn_refusal.specs.Refusals.{cause_of};
 ghost use Rattle.syn_coordinator.specs.Coordinators.{Does, Stands, archive_of, device_of, runs};
 ghost use Rattle.syn_coordinator.specs.Coordinators.{all_causes, is_waiting, written};
 ghost use Rattle.syn_session.specs.Sendings.{message_of, messages_of};
-ghost use Rattle.syn_sync.specs.Drivers.{ConnectionStates, states_of, link_at, outlets_of};
+ghost use Rattle.syn_sync.specs.Drivers.{ConnectionStates, states_of, connection_at, outlets_of};
 ghost use Rattle.syn_sync.specs.States.{HearsAll};
 ghost use Rattle.syn_sync.specs.Outlets.{Writes};
 ghost use Rattle.syn_sync.specs.Refusals.{Refuses};
@@ -35,7 +35,7 @@ use syn_session::{MOST_RESENDS, Sending};
 /// sent again as often as it may be.
 const MOST_TICKS: u8 = MOST_RESENDS + 1;
 
-/// What runs sessions over two links, one for each side.
+/// What runs sessions over two connections, one for each side.
 #[derive(Drop)]
 pub struct Driver<R, W> {
     left: SessionConnection<R, W>,
@@ -43,17 +43,17 @@ pub struct Driver<R, W> {
 }
 
 impl<R: Read, W: Write> Driver<R, W> {
-    /// A driver over these links. It takes no memory.
+    /// A driver over these connections. It takes no memory.
     pub fn new(left: SessionConnection<R, W>, right: SessionConnection<R, W>) -> Driver<R, W>
-        ensures left { link_at result Left ≡ left }
-        ensures right { link_at result Right ≡ right }
+        ensures left { connection_at result Left ≡ left }
+        ensures right { connection_at result Right ≡ right }
     {
         Driver { left, right }
     }
 
-    /// The links, left first.
+    /// The connections, left first.
     pub fn into_parts(self) -> (SessionConnection<R, W>, SessionConnection<R, W>)
-        ensures { result ≡ (link_at self Left, link_at self Right) }
+        ensures { result ≡ (connection_at self Left, connection_at self Right) }
     {
         (self.left, self.right)
     }
@@ -61,11 +61,12 @@ impl<R: Read, W: Write> Driver<R, W> {
     /// Runs a session to its end, which prefers a side or none: the coordinator starts it, its
     /// requests go to their sides, and the replies come back to it. Where both sides have to
     /// answer, the one that is ready is read, and the left one where both are. Where the start is
-    /// refused 8, a checkpoint makes room in the archive, once. The watch is told it all.
+    /// refused 8, a checkpoint makes room in the archive, once. The watch is told of each reply,
+    /// and of what the coordinator settled with it.
     ///
-    /// Where a link closes, no side is ready in time, or the coordinator waits for nothing, the
-    /// session is given up: it ends 25, and what that would send again is dropped. The coordinator
-    /// has the report.
+    /// Where a connection closes, no side is ready in time, or the coordinator waits for nothing,
+    /// the session is given up: it ends 25, and what that would send again is dropped. The
+    /// coordinator has the report.
     ///
     /// Refused as `start` is, or as the checkpoint is; then no session ran. Refused 9 also where
     /// the coordinator's machine was stopped, and 25 where the session could not be ended.
@@ -103,8 +104,8 @@ impl<R: Read, W: Write> Driver<R, W> {
         end_if_running(alloc, coordinator)
     }
 
-    /// Goes on with the session until it ends, a link closes, neither side is ready in time, or the
-    /// coordinator waits for nothing.
+    /// Goes on with the session until it ends, a connection closes, neither side is ready in time,
+    /// or the coordinator waits for nothing.
     fn go_on<D: Disk, S: Readiness, V: SessionWatch>(
         &mut self,
         alloc: Global,
@@ -120,9 +121,6 @@ impl<R: Read, W: Write> Driver<R, W> {
             (outlets_of W.contents self.old) (outlets_of W.contents self.new) }
     {
         for _ in 0..u64::MAX {
-            if !coordinator.is_running() {
-                return;
-            }
             let Some(from) = self.next_side(coordinator, readiness) else {
                 return;
             };
@@ -140,7 +138,8 @@ impl<R: Read, W: Write> Driver<R, W> {
     }
 
     /// The side that is read next, for which the coordinator waits: the one that is ready where it
-    /// waits for both. None where a link is closed, neither is ready in time, or it waits for none.
+    /// waits for both. None where a connection is closed, neither is ready in time, or it waits for
+    /// none, as once the session has ended.
     fn next_side<D: Disk, S: Readiness>(
         &self,
         coordinator: &Coordinator<D>,
@@ -174,7 +173,7 @@ impl<R: Read, W: Write> Driver<R, W> {
         readiness.wait()
     }
 
-    /// The next reply of the side; none where its link is closed, or comes to be.
+    /// The next reply of the side; none where its connection is closed, or comes to be.
     fn receive(&mut self, alloc: Global, from: Side) -> Option<ReplyMessage>
         ensures heard { IfSome result (λ answered. (side : Which)
             → HearsAll (states_of R.remaining self.old side)
@@ -215,18 +214,15 @@ impl<R: Read, W: Write> Driver<R, W> {
             ≡ states_of R.remaining self.old side }
     {
         match sending.to {
-            Side::Left => self.left.send(alloc, &sending.asked),
-            Side::Right => self.right.send(alloc, &sending.asked),
+            Side::Left => self.left.send(alloc, &sending.message),
+            Side::Right => self.right.send(alloc, &sending.message),
         }
     }
 }
 
-/// Tells the watch how many items the plan has, what became of them so far, and what the
-/// coordinator wrote into its archive for them now.
+/// Tells the watch what became of the items so far, and what the coordinator wrote into its archive
+/// for them now.
 fn tell_settled<D: Disk, V: SessionWatch>(watch: &mut V, coordinator: &Coordinator<D>) {
-    if let Some(items) = coordinator.planned() {
-        watch.planned(items);
-    }
     let (written, _) = coordinator.kept();
     watch.settled(&coordinator.settled(), written);
 }

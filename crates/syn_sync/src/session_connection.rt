@@ -58,24 +58,24 @@ impl<R: Read, W: Write> SessionConnection<R, W> {
 
     /// Writes the request as a frame, and flushes. Where that fails, or memory is refused, the
     /// connection is closed. On a closed one nothing is written.
-    pub fn send(&mut self, alloc: Global, asked: &RequestMessage)
+    pub fn send(&mut self, alloc: Global, message: &RequestMessage)
         ensures written { Writes (outlet_of W.contents self.old) (outlet_of W.contents self.new)
-            (frame_of (request_spelling (request_message_of asked.now))) (is_open self.new) }
+            (frame_of (request_spelling (request_message_of message.now))) (is_open self.new) }
         ensures state { state_of R.remaining self.new ≡ state_of R.remaining self.old }
     {
         if self.open {
-            self.open = self.write(alloc, asked);
+            self.open = self.write(alloc, message);
         }
     }
 
     /// Writes the request as a frame, and answers whether it is written whole.
-    fn write(&mut self, alloc: Global, asked: &RequestMessage) -> bool
+    fn write(&mut self, alloc: Global, message: &RequestMessage) -> bool
         ensures written { Adds result (W.contents (writer_of self.old))
             (W.contents (writer_of self.new))
-            (frame_of (request_spelling (request_message_of asked.now))) }
+            (frame_of (request_spelling (request_message_of message.now))) }
         ensures state { state_of R.remaining self.new ≡ state_of R.remaining self.old }
     {
-        match encode_request(alloc, asked) {
+        match encode_request(alloc, message) {
             Ok(body) => self.connection.send(&body).is_ok(),
             Err(_) => false,
         }

@@ -15,12 +15,8 @@ pub trait SessionWatch {
     /// The side replied. The coordinator takes the reply after this call.
     fn heard(&mut self, from: Side, answered: &ReplyMessage);
 
-    /// The plan of the session has so many items. It is told after each reply that the coordinator
-    /// took and that did not end the session, once there is a plan.
-    fn planned(&mut self, items: usize);
-
-    /// The coordinator took the reply. This is what became of the items so far, and what it has
-    /// just written into its archive for them, in the order of the plan.
+    /// The coordinator took the reply. This is what became of the items of its plan so far, and
+    /// what it has just written into its archive for them, in the order of the plan.
     ///
     /// At most one of them was carried since the reply before, and then the first record is of that
     /// one: to carry another, a side has to be asked and to answer.
@@ -48,8 +44,6 @@ impl SessionWatch for Unwatched {
     fn unreached(&mut self, _side: Side, _why: &io::Error) {}
 
     fn heard(&mut self, _from: Side, _answered: &ReplyMessage) {}
-
-    fn planned(&mut self, _items: usize) {}
 
     fn settled(&mut self, _settled: &SettledItems<'_>, _kept: &[Kept]) {}
 

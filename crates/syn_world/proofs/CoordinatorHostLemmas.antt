@@ -8,7 +8,7 @@ use Rattle.syn_headline.specs.Session.{Running}
 use Rattle.syn_coordinator.specs.Coordinators.{Stands, with_arms}
 use Rattle.syn_coordinator.specs.Machines.{Journal}
 use Rattle.syn_coordinator.specs.Tries.{Tries}
-use Rattle.syn_coordinator.specs.declared.tried.Unconfirmed.{Unconfirmed}
+use Rattle.syn_coordinator.specs.declared.tried.TriedRecord.{TriedRecord}
 use Rattle.syn_coordinator.specs.declared.coordinator.Coordinator.{Coordinator as Session}
 use Rattle.syn_world.proofs.SideLemmas.{halted_not_down, up_not_down}
 
@@ -16,7 +16,7 @@ down_not_up : Down ≢ Up
 down_not_up e = up_not_down (sym e)
 
 -- what was tried is remembered as its machine stops
-pub tries_stopped : (tried : Option Unconfirmed) (machine : Journal)
+pub tries_stopped : (tried : Option TriedRecord) (machine : Journal)
     → Tries tried machine → Tries tried (after_device machine Down unarmed 0)
 tries_stopped None machine tries = tries
 tries_stopped (Some tried) machine tries = record {

@@ -16,7 +16,7 @@ use crate::disk::SimulatedDisk;
 use crate::outcome::CoordinatorOutcome;
 use std::alloc::Global;
 use syn_archive::ArchiveError;
-use syn_coordinator::{Coordinator, Unconfirmed};
+use syn_coordinator::{Coordinator, TriedRecord};
 use syn_disk::{Arm, Disk};
 use syn_refusal::Refusal;
 
@@ -38,7 +38,7 @@ pub enum CoordinatorHost<D: Disk> {
 pub struct DownCoordinator<D> {
     pub disk: D,
     /// The record that was being written as a device call failed or the machine stopped.
-    pub tried: Option<Unconfirmed>,
+    pub tried: Option<TriedRecord>,
 }
 
 /// A coordinator after a step, with what came of it. Of that nothing is told where memory for it

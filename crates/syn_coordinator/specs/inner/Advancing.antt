@@ -3,8 +3,8 @@ use Rattle.std.specs.Prelude.{◌≡◌, ◌⊎◌, ℕ, true, List, [], ◌∷�
 use Rattle.std.specs.Prelude.{None}
 use Rattle.syn_archive.specs.Archive.{disk_of}
 use Rattle.syn_archive.specs.declared.archive.Archive.{Archive}
-use Rattle.syn_coordinator.specs.Recorders.{BreaksNothing, BreaksOff, BreaksUnsent}
-use Rattle.syn_coordinator.specs.declared.recorder.Recorder.{Recorder}
+use Rattle.syn_coordinator.specs.PlanRunners.{BreaksNothing, BreaksOff, BreaksUnsent}
+use Rattle.syn_coordinator.specs.declared.plan_runner.PlanRunner.{PlanRunner}
 use Rattle.syn_coordinator.specs.declared.session_end.SessionEnd.{SessionEnd}
 use Rattle.syn_coordinator.specs.declared.session_end.SessionEnd.TheVariants.{Early, Failed}
 use Rattle.syn_coordinator.specs.declared.session_end.SessionEnd.TheVariants.{PlanDone}
@@ -20,7 +20,7 @@ use Rattle.syn_coordinator.specs.declared.due.RecordOutcome.{RecordOutcome}
 use Rattle.syn_coordinator.specs.declared.due.RecordOutcome.TheVariants.{Recorded, Refused}
 use Rattle.syn_coordinator.specs.declared.due.RecordOutcome.TheVariants.{Ends, Unsent}
 use Rattle.syn_coordinator.specs.declared.due.RecordOutcome.TheVariants as due
-use Rattle.syn_coordinator.specs.declared.tried.Unconfirmed.{Unconfirmed}
+use Rattle.syn_coordinator.specs.declared.tried.TriedRecord.{TriedRecord}
 use Rattle.syn_model.specs.Archive.{Kept}
 use Rattle.syn_model.specs.Refusal.{Refusal as Why, Device}
 use Rattle.syn_refusal.specs.Refusals.{cause_of}
@@ -36,12 +36,12 @@ ended_by Failed = Some Device
 abbrev pub EndsAs : RecordOutcome → SessionEnd → Type 0
 EndsAs (Ends why) how = how ≡ Early why
 EndsAs Unsent how = how ≡ Failed
-EndsAs due.Unconfirmed how = how ≡ Failed
+EndsAs due.Tried how = how ≡ Failed
 EndsAs _ how = ⊥
 
 -- it remembers what was sent and not kept; and where it was up before and is halted, its session
 -- ended for that
-pub record Remembers (before : Status) (tried : Option Unconfirmed) (journal : Journal)
+pub record Remembers (before : Status) (tried : Option TriedRecord) (journal : Journal)
     (how : SessionEnd)
     : Type 0 where
   pub tries : Tries tried journal
@@ -53,29 +53,29 @@ kept_by what Recorded = what ∷ []
 kept_by what (Refused why) = []
 kept_by what (Ends why) = []
 kept_by what Unsent = []
-kept_by what due.Unconfirmed = []
+kept_by what due.Tried = []
 
 -- what was due breaks off only where it ends for the device
-abbrev pub BreaksBy : {D : Type 0} → {disk : Ghosts D} → Recorder D disk → Recorder D disk →
+abbrev pub BreaksBy : {D : Type 0} → {disk : Ghosts D} → PlanRunner D disk → PlanRunner D disk →
     RecordOutcome → Type 0
 BreaksBy old new Unsent = BreaksUnsent old new
-BreaksBy old new due.Unconfirmed = BreaksOff old new
+BreaksBy old new due.Tried = BreaksOff old new
 BreaksBy old new _ = BreaksNothing old new
 
 -- and so does a session that ends
-abbrev pub BreaksAs : {D : Type 0} → {disk : Ghosts D} → Recorder D disk → Recorder D disk →
+abbrev pub BreaksAs : {D : Type 0} → {disk : Ghosts D} → PlanRunner D disk → PlanRunner D disk →
     SessionEnd → Type 0
 BreaksAs old new Failed = BreaksUnsent old new ⊎ BreaksOff old new
 BreaksAs old new _ = BreaksNothing old new
 
 -- a call goes through the plan of its session: as long as it goes on nothing breaks
-abbrev pub Breaks : {D : Type 0} → {disk : Ghosts D} → {A : Type 0} → Recorder D disk →
-    Recorder D disk → Result A SessionEnd → Type 0
+abbrev pub Breaks : {D : Type 0} → {disk : Ghosts D} → {A : Type 0} → PlanRunner D disk →
+    PlanRunner D disk → Result A SessionEnd → Type 0
 Breaks old new result = MatchResult result (λ _. BreaksNothing old new) (BreaksAs old new)
 
 -- It goes past the item, whose record is kept or refused; or the session ends at it; or the machine
 -- was stopped there
-pub data Advanced {D : Type 0} {disk : Ghosts D} (new : Archive D disk) (tried : Option Unconfirmed)
+pub data Advanced {D : Type 0} {disk : Ghosts D} (new : Archive D disk) (tried : Option TriedRecord)
     (pair : ℕ) (plan : List Planned) (taken : Exchange) (walk : Walk)
     (planned : Planned) (what : Kept) : RecordOutcome → Type 0 where
   kept_it : (journal : Journal) → Advances pair plan taken walk (what ∷ []) (past walk journal) →

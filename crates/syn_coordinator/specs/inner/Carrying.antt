@@ -1,8 +1,8 @@
 -- What an answer for the item that a session has come to comes to, where that item is carried.
 use Rattle.std.specs.Prelude.{◌≡◌, ◌⊎◌, ◌≤◌, ◌≢◌, ℕ, suc, true, List, [], ◌∷◌, ◌++◌, None, Some}
 use Rattle.std.specs.Prelude.{MatchResult, Result}
-use Rattle.syn_coordinator.specs.Recorders.{written}
-use Rattle.syn_coordinator.specs.declared.recorder.Recorder.{Recorder}
+use Rattle.syn_coordinator.specs.PlanRunners.{written}
+use Rattle.syn_coordinator.specs.declared.plan_runner.PlanRunner.{PlanRunner}
 use Rattle.syn_coordinator.specs.declared.session_end.SessionEnd.{SessionEnd}
 use Rattle.syn_coordinator.specs.declared.session_end.SessionEnd.TheVariants.{Early}
 use Rattle.syn_coordinator.specs.inner.Settling.{AsksSo, EndsSo, IsQuiet}
@@ -19,7 +19,7 @@ use Rattle.syn_session.specs.Stages.{IsPlanProgress, Reached}
 use Rattle.syn_session.specs.declared.plan_progress.PlanProgress.{PlanProgress}
 use Rattle.syn_session.specs.declared.session.Asks.{Asks}
 
-module _ {D : Type 0} {disk : Ghosts D} (old new : Recorder D disk) (pair : ℕ)
+module _ {D : Type 0} {disk : Ghosts D} (old new : PlanRunner D disk) (pair : ℕ)
     (taken : Exchange) (journal : Journal) (before : Reached) (progress : PlanProgress)
     (left right : Found) (all : List Exchange) where
   -- it asks for a later item
@@ -45,7 +45,7 @@ module _ {D : Type 0} {disk : Ghosts D} (old new : Recorder D disk) (pair : ℕ)
         EndsSo old new pair taken journal before progress left right ended → EndsCarrying ended
 
 -- The item that is carried is left for this cause: it asks for a later one, or the session ends
-abbrev pub LeavesItem : {D : Type 0} → {disk : Ghosts D} → Recorder D disk → Recorder D disk →
+abbrev pub LeavesItem : {D : Type 0} → {disk : Ghosts D} → PlanRunner D disk → PlanRunner D disk →
     PlanProgress → PlanProgress → Found → Found → (Planned → Exchange → Type 0) →
     Result Asks SessionEnd → Type 0
 LeavesItem old new was progress left right Because result = (pair : ℕ) (journal : Journal)

@@ -15,7 +15,7 @@ use Rattle.syn_coordinator.specs.Steps.{CompactsSo, KeepsSo}
 use Rattle.syn_coordinator.specs.declared.due.RecordOutcome.{RecordOutcome}
 use Rattle.syn_coordinator.specs.declared.due.RecordOutcome.TheVariants.{Recorded as IsRecorded}
 use Rattle.syn_coordinator.specs.declared.due.RecordOutcome.TheVariants.{Refused}
-use Rattle.syn_coordinator.specs.declared.due.RecordOutcome.TheVariants.{Ends, Unsent, Unconfirmed}
+use Rattle.syn_coordinator.specs.declared.due.RecordOutcome.TheVariants.{Ends, Unsent, Tried}
 use Rattle.syn_model.specs.Archive.{Kept, kept_refusal}
 use Rattle.syn_model.specs.Limits.{greatest}
 use Rattle.syn_refusal.specs.Refusals.{cause_of}
@@ -33,7 +33,7 @@ EndsFor e due = (why : Refusal) × (due ≡ Some (Ends why)) × (cause_of why �
 abbrev pub IsOutcomeOf : Result (Unit {0}) ArchiveError → Option RecordOutcome → Type 0
 IsOutcomeOf (Ok x) due = due ≡ Some IsRecorded
 IsOutcomeOf (Err error.JournalFull) due = due ≡ None
-IsOutcomeOf (Err error.Device) due = due ≡ Some Unconfirmed
+IsOutcomeOf (Err error.Device) due = due ≡ Some Tried
 IsOutcomeOf (Err error.NoParent) due = RefusesFor error.NoParent due
 IsOutcomeOf (Err error.Root) due = RefusesFor error.Root due
 IsOutcomeOf (Err error.Full) due = RefusesFor error.Full due
@@ -51,7 +51,7 @@ pub data Records {D : Type 0} {disk : Ghosts D} (new : Archive D disk) (pair : �
   written : IsReady machine kept → has_room (archive_layout pair) machine kept ≡ true →
       KeepsSo new pair machine kept (kept ∷ []) Up → Records new pair machine kept (Some IsRecorded)
   breaks : IsReady machine kept → has_room (archive_layout pair) machine kept ≡ true →
-      KeepsSo new pair machine kept [] Halted → Records new pair machine kept (Some Unconfirmed)
+      KeepsSo new pair machine kept [] Halted → Records new pair machine kept (Some Tried)
   refuses : (why : Refusal) → machine.status ≡ Up →
       kept_refusal machine.value kept ≡ Some (cause_of why) → IsMachine new pair machine →
       Records new pair machine kept (Some (Refused why))

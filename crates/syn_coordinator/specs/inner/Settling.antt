@@ -1,7 +1,7 @@
 -- What a call that carries out a plan has come to, with what it wrote.
 use Rattle.std.specs.Prelude.{◌≡◌, ◌≤◌, ◌++◌, ℕ, suc, List, None}
-use Rattle.syn_coordinator.specs.Recorders.{written}
-use Rattle.syn_coordinator.specs.declared.recorder.Recorder.{Recorder}
+use Rattle.syn_coordinator.specs.PlanRunners.{written}
+use Rattle.syn_coordinator.specs.declared.plan_runner.PlanRunner.{PlanRunner}
 use Rattle.syn_coordinator.specs.declared.session_end.SessionEnd.{SessionEnd}
 use Rattle.syn_coordinator.specs.inner.Walking.{Comes, ComesToAsk, Ends}
 use Rattle.syn_disk.specs.declared.disk.Disk.{Ghosts}
@@ -14,10 +14,10 @@ use Rattle.syn_session.specs.declared.plan_progress.PlanProgress.{PlanProgress}
 use Rattle.syn_session.specs.declared.session.Asks.{Asks}
 
 -- nothing is being written, and nothing is remembered that was
-abbrev pub IsQuiet : {D : Type 0} → {disk : Ghosts D} → Recorder D disk → Journal → Type 0
-IsQuiet recorder journal = (recorder.tried ≡ None) × (journal.writing ≡ None)
+abbrev pub IsQuiet : {D : Type 0} → {disk : Ghosts D} → PlanRunner D disk → Journal → Type 0
+IsQuiet runner journal = (runner.tried ≡ None) × (journal.writing ≡ None)
 
-module _ {D : Type 0} {disk : Ghosts D} (old new : Recorder D disk) (pair : ℕ)
+module _ {D : Type 0} {disk : Ghosts D} (old new : PlanRunner D disk) (pair : ℕ)
     (taken : Exchange) (journal : Journal) (before : Reached) (progress : PlanProgress)
     (left right : Found) where
   -- it is past this item

@@ -16,7 +16,7 @@ use Rattle.syn_headline.specs.Machine.{Down}
 use Rattle.syn_headline.specs.Planning.{Log}
 use Rattle.syn_coordinator.specs.Machines.{IsMachine, Journal, LeavesMachine}
 use Rattle.syn_coordinator.specs.Tries.{Tries}
-use Rattle.syn_coordinator.specs.declared.tried.Unconfirmed.{Unconfirmed}
+use Rattle.syn_coordinator.specs.declared.tried.TriedRecord.{TriedRecord}
 use Rattle.syn_model.specs.Archive.{Kept}
 use Rattle.syn_model.specs.Refusal.{Memory}
 use Rattle.syn_refusal.specs.Refusals.{cause_of}
@@ -64,7 +64,7 @@ pub record TakesOn {D : Type 0} {disk : Ghosts D} (new : Archive D disk) (pair :
 
 -- It ends with the answer at once; or after it; or the machine is down. It remembers what could
 -- not be kept
-pub data TakesEnd {D : Type 0} {disk : Ghosts D} (new : Archive D disk) (tried : Option Unconfirmed)
+pub data TakesEnd {D : Type 0} {disk : Ghosts D} (new : Archive D disk) (tried : Option TriedRecord)
     (pair : ℕ) (journal : Journal) (running : Running) (taken : Exchange) (session : Session)
     (kept : List Kept) : SessionEnd → Type 0 where
   at_once : (why : Refusal) →
@@ -86,7 +86,7 @@ pub data TakesEnd {D : Type 0} {disk : Ghosts D} (new : Archive D disk) (tried :
       LeavesMachine disk (disk_of new) pair walk.journal → Tries tried walk.journal →
       TakesEnd new tried pair journal running taken session kept ended
 
-abbrev pub TakesSo : {D : Type 0} → {disk : Ghosts D} → Archive D disk → Option Unconfirmed → ℕ →
+abbrev pub TakesSo : {D : Type 0} → {disk : Ghosts D} → Archive D disk → Option TriedRecord → ℕ →
     Journal → Running → Exchange → Session → List Kept → Result Asks SessionEnd → Type 0
 TakesSo new tried pair journal running taken session kept (Ok asks) =
     TakesOn new pair journal running taken session kept asks × (tried ≡ None)

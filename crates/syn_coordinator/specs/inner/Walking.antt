@@ -12,7 +12,7 @@ use Rattle.syn_headline.specs.Coordinator.{Advances, EndsFor, Exchange, Running,
 use Rattle.syn_headline.specs.Machine.{Down}
 use Rattle.syn_coordinator.specs.Machines.{IsMachine, Journal, LeavesMachine}
 use Rattle.syn_coordinator.specs.Tries.{Tries}
-use Rattle.syn_coordinator.specs.declared.tried.Unconfirmed.{Unconfirmed}
+use Rattle.syn_coordinator.specs.declared.tried.TriedRecord.{TriedRecord}
 use Rattle.syn_model.specs.Archive.{Kept}
 use Rattle.syn_scan.specs.Found.{Found}
 use Rattle.syn_session.specs.Carrying.{AsksOne}
@@ -59,7 +59,7 @@ pub record Comes {D : Type 0} {disk : Ghosts D} (new : Archive D disk) (pair : �
   pub course_is : IsPlanProgress progress left right after
 
 -- The session ends so; or the machine is down. It remembers what could not be kept
-pub data Ends {D : Type 0} {disk : Ghosts D} (new : Archive D disk) (tried : Option Unconfirmed)
+pub data Ends {D : Type 0} {disk : Ghosts D} (new : Archive D disk) (tried : Option TriedRecord)
     (pair : ℕ) (taken : Exchange) (old : Journal) (before : Reached) (kept : List Kept)
     (progress : PlanProgress) (left right : Found) (ended : SessionEnd) : Type 0 where
   ends : (walk : Walk) (after : Reached) →

@@ -50,20 +50,20 @@ impl<D: Disk> Coordinator<D> {
         ensures breaks { TellsNone self.old self.new ⊎ BreaksOff self.old self.new }
         ensures halts { HaltsByFailure self.old self.new }
     {
-        self.recorder.forget(alloc);
+        self.runner.forget(alloc);
         let Some(running) = &mut self.running else {
             drop(reply);
             return Vec::new(alloc);
         };
-        let Some(asked) = running.take_waiting(from, session, number) else {
+        let Some(message) = running.take_waiting(from, session, number) else {
             drop(reply);
             return Vec::new(alloc);
         };
         let taken = self
-            .recorder
-            .take(alloc, running, from, &asked.request, reply);
+            .runner
+            .take(alloc, running, from, &message.request, reply);
         // Before the next request, which may take as much memory.
-        drop(asked);
+        drop(message);
         match taken {
             Ok(asks) => match running.ask(alloc, asks) {
                 Ok(sends) => sends,

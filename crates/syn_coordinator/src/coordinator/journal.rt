@@ -54,9 +54,9 @@ impl<D: Disk> Coordinator<D> {
         ensures halts { HaltsByFailure self.old self.new }
     {
         archive_laws();
-        let generation = self.recorder.archive.generation();
+        let generation = self.runner.archive.generation();
         is_long(generation);
-        match self.recorder.archive.checkpoint(alloc) {
+        match self.runner.archive.checkpoint(alloc) {
             Ok(()) => Ok(()),
             Err(error) => Err(error),
         }
@@ -65,7 +65,7 @@ impl<D: Disk> Coordinator<D> {
 
 impl<D: Disk> Coordinator<D> {
     ghost use Rattle.syn_coordinator.specs.Coordinators.{Does, KeepsReadings, ReopensNot, Stands};
-    ghost use Rattle.syn_coordinator.specs.Coordinators.{device_of, broken};
+    ghost use Rattle.syn_coordinator.specs.Coordinators.{device_of, in_doubt};
     ghost use Rattle.syn_coordinator.specs.Coordinators.{report_shown, runs, tried_shown, written};
     ghost use Rattle.syn_coordinator.specs.Tries.{listed};
     ghost use Rattle.syn_image.specs.Archives.{kept_of};
@@ -93,18 +93,18 @@ impl<D: Disk> Coordinator<D> {
             (ReopensNot pair machine (refusal_of ArchiveError.Memory)) [] []) }
         ensures same { IfErr result (λ _. KeepsReadings self.old self.new) }
         ensures again { OnOk result ((report_shown self.new ≡ report_shown self.old)
-            × (written self.new ≡ written self.old) × (broken self.new ≡ broken self.old)
+            × (written self.new ≡ written self.old) × (in_doubt self.new ≡ in_doubt self.old)
             × (runs self.new ≡ runs self.old)) }
         ensures forgets { OnOk result (is_stopped (D.Disk.arms (device_of self.new)) ≡ false
             → tried_shown self.new ≡ None) }
         ensures failures { CountsFailures (ended refusal_of result)
             (D.Disk.failures (device_of self.old)) (D.Disk.failures (device_of self.new)) }
     {
-        let broke = self.recorder.copied_broken(alloc)?;
-        match self.recorder.archive.reopen(alloc) {
-            Ok(()) => Ok(self.recorder.recovered(broke)),
+        let in_doubt = self.runner.copy_in_doubt(alloc)?;
+        match self.runner.archive.reopen(alloc) {
+            Ok(()) => Ok(self.runner.recovered(in_doubt)),
             Err(error) => {
-                drop(broke);
+                drop(in_doubt);
                 Err(error)
             }
         }
@@ -134,6 +134,6 @@ impl<D: Limit> Coordinator<D> {
             ≡ D.Disk.failures (device_of self.old) }
         ensures same { KeepsReadings self.old self.new }
     {
-        self.recorder.archive.arm(arm);
+        self.runner.archive.arm(arm);
     }
 }

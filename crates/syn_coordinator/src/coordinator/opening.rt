@@ -9,7 +9,7 @@ ghost use Rattle.syn_coordinator.specs.Tries.{listed};
 ghost use Rattle.syn_image.specs.Archives.{kept_of};
 
 use super::Coordinator;
-use crate::{Unconfirmed, recovered_record};
+use crate::{TriedRecord, recovered_record};
 use std::alloc::Global;
 use syn_archive::{Archive, ArchiveError};
 use syn_disk::Disk;
@@ -26,8 +26,8 @@ impl<D: Disk> Coordinator<D> {
         alloc: Global,
         disk: D,
         pair: u64,
-        tried: Option<Unconfirmed>,
-    ) -> Result<(Coordinator<D>, Option<Kept>), (ArchiveError, D, Option<Unconfirmed>)>
+        tried: Option<TriedRecord>,
+    ) -> Result<(Coordinator<D>, Option<Kept>), (ArchiveError, D, Option<TriedRecord>)>
         ensures opens { (machine : CoordinatorMachine)
             → RestsWith D.arms D.may_leave pair disk tried machine
             → IfOk result (λ made. OpensAs made.0 pair machine

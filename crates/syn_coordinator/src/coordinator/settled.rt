@@ -8,13 +8,16 @@ use syn_disk::Disk;
 use syn_session::SettledItems;
 
 impl<D: Disk> Coordinator<D> {
-    ghost use Rattle.syn_coordinator.specs.Coordinators.{Stands, report_shown, settled_so_far};
+    ghost use Rattle.syn_coordinator.specs.Coordinators.{Stands, items_planned, report_shown};
+    ghost use Rattle.syn_coordinator.specs.Coordinators.{settled_so_far};
 
     /// What became so far of the items of the session that runs, or else of the one that ended
     /// last. Nothing is settled before a plan is made, nor before the first session.
     pub fn settled(&self) -> SettledItems<'_>
-        ensures { (pair : ℕ) (machine : CoordinatorMachine) → Stands self.now pair machine
+        ensures settled { (pair : ℕ) (machine : CoordinatorMachine) → Stands self.now pair machine
             → settled_by result ≡ settled_so_far machine.running (report_shown self.now) }
+        ensures planned { (pair : ℕ) (machine : CoordinatorMachine) → Stands self.now pair machine
+            → result.planned ≡ items_planned machine.running }
     {
         if let Some(session) = &self.running {
             return session.settled();

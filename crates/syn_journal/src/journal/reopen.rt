@@ -6,18 +6,9 @@ ghost use Rattle.syn_disk.specs.Stops.{Untouched};
 
 use super::Journal;
 use crate::JournalError;
-use crate::contents::read_contents;
+use crate::contents::{Contents, read_contents};
 use std::alloc::Global;
 use syn_disk::Disk;
-
-/// What the disk of a journal that was reopened stands for.
-#[derive(Drop)]
-pub struct Reopened {
-    /// The image of the last checkpoint, or of the format where none was made.
-    pub image: Vec<u8>,
-    /// The payloads since, the oldest first.
-    pub records: Vec<Vec<u8>>,
-}
 
 impl<D: Disk> Journal<D> {
     ghost use Rattle.syn_journal.specs.Journal.{disk_of, half_of, generation_of, gate_of, IsHalted};
@@ -30,9 +21,9 @@ impl<D: Disk> Journal<D> {
     ///
     /// It is refused as `open` is. After `Device` the journal is halted, and after each other
     /// refusal it is as it was.
-    pub fn reopen(&mut self, alloc: Global) -> Result<Reopened, JournalError>
+    pub fn reopen(&mut self, alloc: Global) -> Result<Contents, JournalError>
         ensures reopened { IfOk result
-            (λ found. Stands self.new (value_read found.image found.records)) }
+            (λ contents. Stands self.new (value_read contents)) }
 
         // NoImage and Damaged come only where the disk stands for nothing.
         ensures refusals { IfErr result
@@ -64,19 +55,16 @@ impl<D: Disk> Journal<D> {
         ensures gate { OnErr result (gate_of self.new ≡ gate_of self.old) }
     {
         match read_contents(alloc, &mut self.disk) {
-            Ok(found) => {
-                self.cursor = found.cursor;
+            Ok((cursor, contents)) => {
+                self.cursor = cursor;
                 self.halted = false;
-                Ok(Reopened {
-                    image: found.image,
-                    records: found.records,
-                })
+                Ok(contents)
             }
-            Err(refusal) => {
-                if refusal == JournalError::Device {
+            Err(error) => {
+                if error == JournalError::Device {
                     self.halted = true;
                 }
-                Err(refusal)
+                Err(error)
             }
         }
     }

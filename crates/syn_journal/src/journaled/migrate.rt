@@ -49,12 +49,8 @@ impl<D: Disk, S: State + Drop> Journaled<D, S> {
             Ok(opened) => opened,
             Err((error, disk)) => return Err((S::refused(error), disk)),
         };
-        let Opened {
-            journal,
-            image,
-            records,
-        } = opened;
-        match S::read_old(alloc, &image, &records) {
+        let Opened { journal, contents } = opened;
+        match S::read_old(alloc, &contents.image, &contents.payloads) {
             Ok(state) => Ok(Journaled { journal, state }),
             Err(error) => Err((error, journal.into_disk())),
         }

@@ -53,12 +53,8 @@ impl<D: Disk, S: State + Drop> Journaled<D, S> {
             Ok(opened) => opened,
             Err((error, disk)) => return Err((S::refused(error), disk)),
         };
-        let Opened {
-            journal,
-            image,
-            records,
-        } = opened;
-        match S::read(alloc, &image, &records, wanted) {
+        let Opened { journal, contents } = opened;
+        match S::read(alloc, &contents.image, &contents.payloads, wanted) {
             Ok(state) => Ok(Journaled { journal, state }),
             Err(error) => Err((error, journal.into_disk())),
         }
@@ -129,11 +125,14 @@ impl<D: Disk, S: State + Drop> Journaled<D, S> {
     {
         let was_halted = self.journal.is_halted();
         let cursor = self.journal.cursor();
-        let found = match self.journal.reopen(alloc) {
-            Ok(found) => found,
+        let contents = match self.journal.reopen(alloc) {
+            Ok(contents) => contents,
             Err(error) => return Err(S::refused(error)),
         };
-        match self.state.read_again(alloc, &found.image, &found.records) {
+        match self
+            .state
+            .read_again(alloc, &contents.image, &contents.payloads)
+        {
             Ok(state) => {
                 self.state = state;
                 Ok(())

@@ -30,15 +30,15 @@ pub fn read_log<D: Disk + Drop>(alloc: Global, disk: D) -> Result<Vec<Logged>, R
         Ok(opened) => opened,
         Err((error, _)) => return Err(ReplicaError::Journal(error)),
     };
-    if is_old_replica(&opened.image) {
+    if is_old_replica(&opened.contents.image) {
         return Err(ReplicaError::OldVersion);
     }
-    let image = read_image(alloc, Version::Two, &opened.image)?;
+    let image = read_image(alloc, Version::Two, &opened.contents.image)?;
     let mut logged = Vec::new(alloc);
     let (older, newer) = image.trail.touches();
     push_touches(alloc, &mut logged, older)?;
     push_touches(alloc, &mut logged, newer)?;
-    push_events(alloc, &mut logged, image.trail.position(), &opened.records)?;
+    push_events(alloc, &mut logged, image.trail.position(), &opened.contents.payloads)?;
     Ok(logged)
 }
 

@@ -27,7 +27,7 @@ IsOver transfer = transfer.state ≡ Over
 -- neither of the two: it waits for an answer
 abbrev pub IsWaitingAt : TransferState → Type 0
 IsWaitingAt Ready = ⊥
-IsWaitingAt (Fetching offset total) = Unit {0}
+IsWaitingAt (Fetching offset known) = Unit {0}
 IsWaitingAt (Staging end total) = Unit {0}
 IsWaitingAt Replacing = Unit {0}
 IsWaitingAt Over = ⊥
@@ -95,7 +95,7 @@ pub record WaitsForReplacement (c : TransferSpec) (taken : Exchanges) (to : Whic
 
 abbrev pub WaitsAt : TransferSpec → Exchanges → TransferState → Which → Request → Type 0
 WaitsAt c taken Ready to request = ⊥
-WaitsAt c taken (Fetching offset total) to request = WaitsForPiece c taken offset total to request
+WaitsAt c taken (Fetching offset known) to request = WaitsForPiece c taken offset known to request
 WaitsAt c taken (Staging end total) to request = WaitsForStage c taken end total to request
 WaitsAt c taken Replacing to request = WaitsForReplacement c taken to request
 WaitsAt c taken Over to request = ⊥

@@ -78,4 +78,4 @@ target None = None
 target (Some path) = Some path.now
 
 abbrev pub row_at : Bor Path × Bool × Bool → Row
-row_at touched = (touched.0.now, touched.1, touched.2)
+row_at dirty = (dirty.0.now, dirty.1, dirty.2)

@@ -62,7 +62,7 @@ ScansNext old new Scanned = IsListed old new
 -- what waits on the side, the other side, and its plan
 pub record KeepsRequests (old new : Session) (side : Which) : Type 0 where
   pub waits : (peer_of new side).waiting ≡ (peer_of old side).waiting
-  pub count : (peer_of new side).asked ≡ (peer_of old side).asked
+  pub count : (peer_of new side).next_number ≡ (peer_of old side).next_number
   pub across : peer_of new (other side) ≡ peer_of old (other side)
   pub number_is : new.number ≡ old.number
   pub preference_is : new.preference ≡ old.preference
@@ -71,7 +71,7 @@ pub record KeepsRequests (old new : Session) (side : Which) : Type 0 where
 -- what waits, and what was found
 pub record KeepsFound (old new : Session) : Type 0 where
   pub waits : (side : Which) → (peer_of new side).waiting ≡ (peer_of old side).waiting
-  pub count : (side : Which) → (peer_of new side).asked ≡ (peer_of old side).asked
+  pub count : (side : Which) → (peer_of new side).next_number ≡ (peer_of old side).next_number
   pub found : (side : Which) → found_on new side ≡ found_on old side
   pub number_is : new.number ≡ old.number
   pub preference_is : new.preference ≡ old.preference

@@ -51,7 +51,7 @@ pub(crate) fn came_text(
 /// What the message says.
 fn said(alloc: Global, message: &Message) -> Result<String, AllocError> {
     match message {
-        Message::Asks(sending) => asked(alloc, sending.asked.session, &sending.asked.request),
+        Message::Asks(sending) => asked(alloc, sending.message.session, &sending.message.request),
         Message::Answers(_, answered) => replied(alloc, answered),
     }
 }
@@ -91,7 +91,7 @@ fn replied(alloc: Global, answered: &ReplyMessage) -> Result<String, AllocError>
 pub(crate) fn is_late(sent: &[Message], message: &Message) -> bool {
     match message {
         Message::Asks(sending) => match newest(sent, sending.to) {
-            Some((session, _)) => sending.asked.session < session,
+            Some((session, _)) => sending.message.session < session,
             None => false,
         },
         Message::Answers(side, answered) => {
@@ -105,7 +105,7 @@ fn newest(sent: &[Message], side: Side) -> Option<(u64, u32)> {
     for message in sent.iter().rev() {
         if let Message::Asks(sending) = message {
             if sending.to == side {
-                return Some((sending.asked.session, sending.asked.number));
+                return Some((sending.message.session, sending.message.number));
             }
         }
     }

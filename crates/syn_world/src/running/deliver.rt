@@ -20,9 +20,9 @@ impl<D: SimulatedDisk> Running<D> {
         match self.lists.sent.get(message) {
             None => Ok(self),
             Some(Message::Asks(sending)) => {
-                let (side, asked) = (sending.to, &sending.asked);
-                let (session, number) = (asked.session, asked.number);
-                match asked.request.copy(alloc) {
+                let (side, message) = (sending.to, &sending.message);
+                let (session, number) = (message.session, message.number);
+                match message.request.copy(alloc) {
                     Ok(request) => self.deliver_request(alloc, side, session, number, request),
                     Err(_) => Err(self),
                 }

@@ -10,7 +10,7 @@ pub returns-in-Record-clause-records : goal.returns-in-Record-clause-records
 returns-in-Record-clause-records g c pair machine is =
     let old = c.args.archive.now in
     let what = recorded_at c.in-Record.path c.as_ref.result in
-    let same : what ≡ kept_for c.args.kept.now = search rules in
+    let same : what ≡ kept_for c.args.item_record.now = search rules in
     subst (λ k. Records c.record.new.self pair machine k c.outcome_of.result) same
     (records old c.record.new.self what pair machine is
     (subst (λ k. IsLawfulKept k) (sym same) c.is_lawful.ensures) c.record.result
@@ -22,7 +22,7 @@ pub returns-in-Dir-clause-records : goal.returns-in-Dir-clause-records
 returns-in-Dir-clause-records g c pair machine is =
     let old = c.args.archive.now in
     let what = RecordedDir c.in-Dir.path in
-    let same : what ≡ kept_for c.args.kept.now = search rules in
+    let same : what ≡ kept_for c.args.item_record.now = search rules in
     subst (λ k. Records c.record_dir.new.self pair machine k c.outcome_of-in-Dir.result) same
     (records old c.record_dir.new.self what pair machine is
     (subst (λ k. IsLawfulKept k) (sym same) c.is_lawful.ensures) c.record_dir.result
@@ -34,7 +34,7 @@ pub returns-in-Dir-clause-leaves : goal.returns-in-Dir-clause-leaves
 returns-in-Dir-clause-leaves g c =
     let old = c.args.archive.now in
     let what = RecordedDir c.in-Dir.path in
-    let same : what ≡ kept_for c.args.kept.now = search rules in
+    let same : what ≡ kept_for c.args.item_record.now = search rules in
     subst (λ k. Leaves old c.record_dir.new.self k c.outcome_of-in-Dir.result) same
     (leaves old c.record_dir.new.self what c.record_dir.result c.record_dir.ensures.cause
     c.record_dir.ensures.machine.unchanged c.record_dir.ensures.machine.readings

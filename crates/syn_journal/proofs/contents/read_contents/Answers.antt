@@ -63,20 +63,20 @@ imaged g c =
           ∙ c.in_ok-image.ensures.image,
     )
 
-pub returns-in_err-records-clause-refusals : goal.returns-in_err-records-clause-refusals
-returns-in_err-records-clause-refusals g c =
+pub returns-in_err-payloads-clause-refusals : goal.returns-in_err-payloads-clause-refusals
+returns-in_err-payloads-clause-refusals g c =
     let seen = g.D.Disk.seen c.args.disk.now in
     let half = c.in_ok-half.half in
     let image = c.in_ok-image.image.items in
-    let e = c.in_err-records.field-0.0 in
-    let k = goal.at.returns-in_err-records-clause-refusals g c in
+    let e = c.in_err-payloads.field-0.0 in
+    let k = goal.at.returns-in_err-payloads-clause-refusals g c in
     let read = imaged g k.In_ok-image in
     let long : c.len.result ≡ length image = omega (arith, c.len.ensures, c.in_ok-image.image.ok) in
     let P : List ℕ → ℕ → Type 0 = λ bytes n. IsReadRefusal e
     (let after = bytes_from bytes half (13 + n) in records (length after) after ≡ None) in
     let cause : P seen (length image) = subst (λ n. P seen n) long
-    (subst (λ bytes. P bytes c.len.result) read.0 c.in_err-records.ensures.refusals) in
-    if_err_by c.from_residual-in_err-records.result _ _ c.from_residual-in_err-records.ensures.1
+    (subst (λ bytes. P bytes c.len.result) read.0 c.in_err-payloads.ensures.refusals) in
+    if_err_by c.from_residual-in_err-payloads.result _ _ c.from_residual-in_err-payloads.ensures.1
     (λ e' gives. subst (λ refusal. IsOpenRefusal refusal (meaning seen)) (sym gives)
     (refused_by_records seen half image c.in_ok-image.ensures.fits read.1 e
     (chosen g k.In_ok-half).0 cause))
@@ -87,8 +87,8 @@ returns-clause-whole g c =
     let seen = g.D.Disk.seen disk in
     let half = c.in_ok-half.half in
     let image = c.in_ok-image.image.items in
-    let gate = c.in_ok-records.gate in
-    let payloads = payloads_of c.in_ok-records.records in
+    let gate = c.in_ok-payloads.gate in
+    let payloads = payloads_of c.in_ok-payloads.payloads in
     let k = goal.at.returns-clause-whole g c in
     let read = imaged g k.In_ok-image in
     let long : c.len.result ≡ length image = omega (arith, c.len.ensures, c.in_ok-image.image.ok) in
@@ -97,7 +97,7 @@ returns-clause-whole g c =
     subst (λ n. take (gate - (13 + n)) (drop (start_of half + (13 + n)) seen) ≡ records_of payloads)
     long
     (ap (λ bytes. take (gate - (13 + c.len.result)) (drop (start_of half + (13 + c.len.result))
-    bytes)) (sym read.0) ∙ c.in_ok-records.ensures.payloads) in
+    bytes)) (sym read.0) ∙ c.in_ok-payloads.ensures.payloads) in
     record {
       size =
           g.met.D.Disk.whole disk _ _ (g.met.D.Disk.counts_now disk (g.D.Disk.moment disk) _
@@ -108,11 +108,11 @@ returns-clause-whole g c =
           ∙ sym c.in_ok-half.ensures.generation;
       front =
           front_read seen half image c.in_ok-image.ensures.fits read.1 payloads gate
-          (omega (arith, long, c.in_ok-records.ensures.ordered)) next;
+          (omega (arith, long, c.in_ok-payloads.ensures.ordered)) next;
       closed =
           subst (λ bytes. get_or bytes (start_of half + gate) 0 ≢ open_gate) read.0
-          c.in_ok-records.ensures.closed;
-      within = c.in_ok-records.ensures.within;
+          c.in_ok-payloads.ensures.closed;
+      within = c.in_ok-payloads.ensures.within;
     }
 
 pub returns-in_err-sync-clause-calls : goal.returns-in_err-sync-clause-calls
@@ -146,20 +146,20 @@ returns-in_err-image-clause-calls g c =
     c.from_residual-in_err-image.ensures.1
     (then_after 1 old chosen new second c.in_err-image.field-0.0 c.in_err-image.ensures.calls)
 
-pub returns-in_err-records-clause-calls : goal.returns-in_err-records-clause-calls
-returns-in_err-records-clause-calls g c =
+pub returns-in_err-payloads-clause-calls : goal.returns-in_err-payloads-clause-calls
+returns-in_err-payloads-clause-calls g c =
     let old = g.D.Disk.arms c.args.disk.now in
     let synced = g.D.Disk.arms c.sync.new.self in
     let chosen = g.D.Disk.arms c.read_current.new.disk in
     let image = g.D.Disk.arms c.read_image.new.disk in
-    let new = g.D.Disk.arms c.read_records.new.disk in
+    let new = g.D.Disk.arms c.read_payloads.new.disk in
     let first = one_read 1 old synced
     (omega arith) c.in_ok-sync.ensures.allowed c.sync.ensures.arms in
     let second = then_some 1 old synced chosen first c.in_ok-half.ensures.calls in
     let third = then_some 1 old chosen image second c.in_ok-image.ensures.calls in
-    reads_of_exit 1 c.from_residual-in_err-records.result _ old new
-    c.from_residual-in_err-records.ensures.1
-    (then_after 1 old image new third c.in_err-records.field-0.0 c.in_err-records.ensures.calls)
+    reads_of_exit 1 c.from_residual-in_err-payloads.result _ old new
+    c.from_residual-in_err-payloads.ensures.1
+    (then_after 1 old image new third c.in_err-payloads.field-0.0 c.in_err-payloads.ensures.calls)
 
 pub returns-clause-calls : goal.returns-clause-calls
 returns-clause-calls g c =
@@ -171,8 +171,8 @@ returns-clause-calls g c =
     (omega arith) c.in_ok-sync.ensures.allowed c.sync.ensures.arms in
     let second = then_some 1 old synced chosen first c.in_ok-half.ensures.calls in
     let third = then_some 1 old chosen image second c.in_ok-image.ensures.calls in
-    then_some 1 old image (g.D.Disk.arms c.read_records.new.disk) third
-    c.in_ok-records.ensures.calls
+    then_some 1 old image (g.D.Disk.arms c.read_payloads.new.disk) third
+    c.in_ok-payloads.ensures.calls
 
 pub returns-in_err-sync-clause-count : goal.returns-in_err-sync-clause-count
 returns-in_err-sync-clause-count g c =
@@ -192,17 +192,17 @@ returns-in_err-image-clause-count g c =
     (g.D.Disk.failures c.read_image.new.disk) c.from_residual-in_err-image.ensures.1
     (c.in_ok-half.ensures.count ∙ c.in_ok-sync.ensures.count) c.in_err-image.ensures.count
 
-pub returns-in_err-records-clause-count : goal.returns-in_err-records-clause-count
-returns-in_err-records-clause-count g c =
-    counts_of_exit c.from_residual-in_err-records.result _ (g.D.Disk.failures c.args.disk.now)
+pub returns-in_err-payloads-clause-count : goal.returns-in_err-payloads-clause-count
+returns-in_err-payloads-clause-count g c =
+    counts_of_exit c.from_residual-in_err-payloads.result _ (g.D.Disk.failures c.args.disk.now)
     (g.D.Disk.failures c.read_image.new.disk)
-    (g.D.Disk.failures c.read_records.new.disk) c.from_residual-in_err-records.ensures.1
+    (g.D.Disk.failures c.read_payloads.new.disk) c.from_residual-in_err-payloads.ensures.1
     (c.in_ok-image.ensures.count ∙ c.in_ok-half.ensures.count ∙ c.in_ok-sync.ensures.count)
-    c.in_err-records.ensures.count
+    c.in_err-payloads.ensures.count
 
 pub returns-clause-count : goal.returns-clause-count
 returns-clause-count g c =
-    c.in_ok-records.ensures.count ∙ c.in_ok-image.ensures.count ∙ c.in_ok-half.ensures.count
+    c.in_ok-payloads.ensures.count ∙ c.in_ok-image.ensures.count ∙ c.in_ok-half.ensures.count
     ∙ c.in_ok-sync.ensures.count
 
 pub returns-in_err-sync-clause-untouched : goal.returns-in_err-sync-clause-untouched
@@ -227,8 +227,8 @@ returns-in_err-image-clause-untouched g c =
     and_then disk c.read_current.new.disk c.read_image.new.disk chosen
     c.in_err-image.ensures.untouched
 
-pub returns-in_err-records-clause-untouched : goal.returns-in_err-records-clause-untouched
-returns-in_err-records-clause-untouched g c =
+pub returns-in_err-payloads-clause-untouched : goal.returns-in_err-payloads-clause-untouched
+returns-in_err-payloads-clause-untouched g c =
     let disk = c.args.disk.now in
     let synced = one_call g.met.D.Disk.only_now disk c.sync.new.self c.sync.ensures.seen
     c.sync.ensures.stop c.sync.ensures.time in
@@ -236,8 +236,8 @@ returns-in_err-records-clause-untouched g c =
     and_then disk c.sync.new.self c.read_current.new.disk synced c.in_ok-half.ensures.untouched in
     let imaged = and_then disk c.read_current.new.disk c.read_image.new.disk chosen
     c.in_ok-image.ensures.untouched in
-    and_then disk c.read_image.new.disk c.read_records.new.disk imaged
-    c.in_err-records.ensures.untouched
+    and_then disk c.read_image.new.disk c.read_payloads.new.disk imaged
+    c.in_err-payloads.ensures.untouched
 
 pub returns-clause-untouched : goal.returns-clause-untouched
 returns-clause-untouched g c =
@@ -248,5 +248,5 @@ returns-clause-untouched g c =
     and_then disk c.sync.new.self c.read_current.new.disk synced c.in_ok-half.ensures.untouched in
     let imaged = and_then disk c.read_current.new.disk c.read_image.new.disk chosen
     c.in_ok-image.ensures.untouched in
-    and_then disk c.read_image.new.disk c.read_records.new.disk imaged
-    c.in_ok-records.ensures.untouched
+    and_then disk c.read_image.new.disk c.read_payloads.new.disk imaged
+    c.in_ok-payloads.ensures.untouched

@@ -7,8 +7,8 @@ use Rattle.syn_recon.specs.inner.Decided.{walk}
 use Rattle.syn_recon.proofs.walk.items_along.Given as goal
 use Rattle.syn_path.specs.Sides.{which_of}
 
-abbrev pub invariant-loop-touched : goal.invariant-loop-touched
-invariant-loop-touched l = record {
+abbrev pub invariant-loop-dirty : goal.invariant-loop-dirty
+invariant-loop-dirty l = record {
   left : l.left_at ≤ length l.fn.lefts;
   right : l.right_at ≤ length l.fn.rights;
   items : items_of l.items.items
@@ -20,5 +20,5 @@ invariant-loop-touched l = record {
       (merged (paths_at l.fn.lefts) (paths_at l.fn.rights)) None;
 }
 
-abbrev pub decreases-loop-touched : goal.decreases-loop-touched
-decreases-loop-touched l = (length l.fn.lefts + length l.fn.rights) - (l.left_at + l.right_at)
+abbrev pub decreases-loop-dirty : goal.decreases-loop-dirty
+decreases-loop-dirty l = (length l.fn.lefts + length l.fn.rights) - (l.left_at + l.right_at)

@@ -38,28 +38,28 @@ pub returns-in-Err-clause-memory : goal.returns-in-Err-clause-memory
 returns-in-Err-clause-memory g c pair machine stands other =
     let is = stands.journal in
     let why = subst (λ p. IsReopenRefusal c.in-Err.error p
-    (g.D.Disk.seen (disk_of c.args.self.now.recorder.archive))) is.pair_is c.in-Err.ensures.refusals
+    (g.D.Disk.seen (disk_of c.args.self.now.runner.archive))) is.pair_is c.in-Err.ensures.refusals
     in
     let memory = only_memory pair machine.journal (g.D.Disk.seen (disk_of
-    c.args.self.now.recorder.archive))
+    c.args.self.now.runner.archive))
     (is.leaves _ (g.met.D.Disk.seen_may_stay _)) c.in-Err.error other why in (
       memory,
       not_reopened c.args.self.now _ pair machine stands refl refl _ _ _
-          (not_down c.args.self.now.recorder.archive machine.journal is.state) (λ up. up)
+          (not_down c.args.self.now.runner.archive machine.journal is.state) (λ up. up)
           (λ calls arms failures meets. no_memory_to_reopen calls arms failures meets)
           (reopen_stayed c.reopen.new.self pair machine.journal (subst
           (λ e. ReadsDisk c.reopen.new.self pair machine.journal (Some (refusal_of e))) memory
           (c.in-Err.ensures.world pair machine.journal is))),
     )
 
-pub returns-in_err-broke-clause-memory : goal.returns-in_err-broke-clause-memory
-returns-in_err-broke-clause-memory g c pair machine stands =
+pub returns-in_err-in_doubt-clause-memory : goal.returns-in_err-in_doubt-clause-memory
+returns-in_err-in_doubt-clause-memory g c pair machine stands =
     if_err_of_exit c.from_residual.result _ _ c.from_residual.ensures.1
     (λ other. (
       refl,
       not_reopened c.args.self.now c.args.self.now pair machine stands refl refl _ _ _
-          (not_down c.args.self.now.recorder.archive machine.journal stands.journal.state)
+          (not_down c.args.self.now.runner.archive machine.journal stands.journal.state)
           (λ up. up)
           (λ calls arms failures meets. no_memory_to_reopen calls arms failures meets)
-          (reopen_early c.args.self.now.recorder.archive pair machine.journal stands.journal),
+          (reopen_early c.args.self.now.runner.archive pair machine.journal stands.journal),
     ))

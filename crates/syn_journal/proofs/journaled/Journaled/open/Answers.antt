@@ -36,7 +36,7 @@ returns-in-Err-clause-world g c number machine wanted fits rests =
 
 pub returns-in-Ok-read-clause-world : goal.returns-in-Ok-read-clause-world
 returns-in-Ok-read-clause-world g c number machine wanted fits rests =
-    let value = value_read c.in-Ok.opened.image c.in-Ok.opened.records in
+    let value = value_read c.in-Ok.opened.contents in
     let stands = c.in-Ok.ensures.opened in
     let means = subst (λ b. meaning b ≡ Ok value) c.in-Ok.ensures.untouched.same
     stands.holds.means in
@@ -66,7 +66,7 @@ returns-in-Ok-read-clause-world g c number machine wanted fits rests =
 
 pub returns-clause-world : goal.returns-clause-world
 returns-clause-world g c number machine wanted fits rests =
-    let value = value_read c.in-Ok.opened.image c.in-Ok.opened.records in
+    let value = value_read c.in-Ok.opened.contents in
     let means = subst (λ b. meaning b ≡ Ok value) c.in-Ok.ensures.untouched.same
     c.in-Ok.ensures.opened.holds.means in
     rests_still g.D.Disk number (g.S.State.kept_as number) g.S.State.pair g.S.State.gives

@@ -23,7 +23,7 @@ pub returns-then-is_old_replica-clause-cause : goal.returns-then-is_old_replica-
 returns-then-is_old_replica-clause-cause g c =
     let opened = c.in-Ok.opened in
     record {
-      value = value_read opened.image opened.records;
+      value = value_read opened.contents;
       means = ap meaning (sym c.in-Ok.ensures.untouched.same) ∙ c.in-Ok.ensures.opened.holds.means;
       old =
           subst IsOldImage c.deref.ensures.value
@@ -36,14 +36,14 @@ returns-in_err-image-clause-cause g c =
     let opened = c.in-Ok.opened in
     let means = ap meaning (sym c.in-Ok.ensures.untouched.same)
     ∙ c.in-Ok.ensures.opened.holds.means in
-    let young : ¬ IsOldImage opened.image.items = λ old.
+    let young : ¬ IsOldImage opened.contents.image.items = λ old.
     true≢false (sym (c.is_old_replica.ensures.1 (subst IsOldImage (sym c.deref.ensures.value) old))
     ∙ c.if-is_old_replica.false) in
     let bytes = g.D.Disk.seen c.args.disk in
-    let payloads = payloads_of opened.records in
+    let payloads = payloads_of opened.contents.payloads in
     rw (p.1, p.2) (by_image c.in_err-image.field-0.0 bytes c.in_err-image.ensures.refusals
-    (λ damaged. unlawful bytes opened.image.items payloads means young
-    (nothing_of_image opened.image.items payloads
+    (λ damaged. unlawful bytes opened.contents.image.items payloads means young
+    (nothing_of_image opened.contents.image.items payloads
     (subst (λ image. (pair : ℕ) (standing : Standing)
     → ¬ IsImageOf current_version image pair standing) c.deref-2.ensures.value
     (c.in_err-image.ensures.damaged damaged)))))
@@ -77,17 +77,17 @@ returns-in_err-push_events-clause-cause g c =
     let laws = c.opening_laws.ensures in
     let means = ap meaning (sym c.in-Ok.ensures.untouched.same)
     ∙ c.in-Ok.ensures.opened.holds.means in
-    let young : ¬ IsOldImage opened.image.items = λ old.
+    let young : ¬ IsOldImage opened.contents.image.items = λ old.
     true≢false (sym (c.is_old_replica.ensures.1 (subst IsOldImage (sym c.deref.ensures.value) old))
     ∙ c.if-is_old_replica.false) in
     let bytes = g.D.Disk.seen c.args.disk in
-    let payloads = payloads_of opened.records in
+    let payloads = payloads_of opened.contents.payloads in
     let is = subst (λ b. IsImageOf current_version b image.pair (image_of image).1)
     c.deref-2.ensures.value c.in_ok-image.ensures.read in
     rw (p.1, p.2) (by_reading c.in_err-push_events.field-0.0
     (AreNoEvents c.position.result (bytes_of_each c.deref-3.result.now)) bytes
-    (λ none. unlawful bytes opened.image.items payloads means young
-    (nothing_of_events opened.image.items payloads laws.one laws.spelled image.pair
+    (λ none. unlawful bytes opened.contents.image.items payloads means young
+    (nothing_of_events opened.contents.image.items payloads laws.one laws.spelled image.pair
     (image_of image).1 is (subst (λ n. AreNoEvents n payloads) c.position.ensures
     (subst (λ ps. AreNoEvents c.position.result (bytes_of_each ps)) c.deref-3.ensures.value none))))
     c.in_err-push_events.ensures.cause)
@@ -99,7 +99,7 @@ returns-clause-told g c =
     let read = c.in_ok-image.ensures.read in
     let adds = c.in_ok-push_events.ensures.added in
     record {
-      value = value_read opened.image opened.records;
+      value = value_read opened.contents;
       means = ap meaning (sym c.in-Ok.ensures.untouched.same) ∙ c.in-Ok.ensures.opened.holds.means;
       pair = image.pair;
       standing = (image_of image).1;

@@ -7,4 +7,4 @@ returns-clause-asks c taken reached =
     let spec = c.args.self.now.spec in
     asked _ taken _ (Fetch spec.path spec.source_since c.args.offset) _
     c.in_ok-next.ensures.asks
-    (asks_fetch spec taken c.args.offset c.args.total reached c.fetch.ensures.lawful)
+    (asks_fetch spec taken c.args.offset c.args.known reached c.fetch.ensures.lawful)

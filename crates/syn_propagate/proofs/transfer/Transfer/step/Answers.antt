@@ -19,7 +19,7 @@ returns-in-Piece-clause-goes_on c taken to request number answer is waits =
     subst (λ a. Answers next taken to number request (reply_of a) c.take_piece.result)
     (same_answer c.args.reply _ answer (c.in-Some.is ∙ ap (λ a. Some a) c.in-Piece.is) is)
     (after_piece spec next taken to number request c.take_piece.result c.in-Fetching.offset
-    c.in-Piece.whole c.in-Fetching.total c.in-Piece.bytes.items at
+    c.in-Piece.total c.in-Fetching.known c.in-Piece.bytes.items at
     (c.take_piece.ensures.goes_on taken number))
 
 pub returns-in-Staged-clause-goes_on : goal.returns-in-Staged-clause-goes_on

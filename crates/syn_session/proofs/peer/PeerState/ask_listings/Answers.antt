@@ -28,9 +28,10 @@ loop-path-preserved c =
           c.in_ok-ask.ensures.ok ∙ (ap₂ (λ l n. l
           ++ messages_to c.args.session to (numbered n (ListAt path ∷ []))) was.sent
           was.asked.count ∙ (append_assoc (messages_of c.args.sends.now.items)
-          (messages_to c.args.session to (numbered old.asked first))
-          (messages_to c.args.session to (numbered (old.asked + length first) (ListAt path ∷ [])))
+          (messages_to c.args.session to (numbered old.next_number first))
+          (messages_to c.args.session to (numbered (old.next_number + length first) (ListAt path ∷
+          [])))
           ∙ ap (λ l. messages_of c.args.sends.now.items ++ l)
-          (sym (ap (λ rs. messages_to c.args.session to (numbered old.asked rs)) all
-          ∙ sent_more c.args.session to old.asked first (ListAt path ∷ [])))));
+          (sym (ap (λ rs. messages_to c.args.session to (numbered old.next_number rs)) all
+          ∙ sent_more c.args.session to old.next_number first (ListAt path ∷ [])))));
     }

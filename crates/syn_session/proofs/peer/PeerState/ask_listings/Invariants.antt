@@ -12,5 +12,5 @@ invariant-loop-path l = record {
   asked : IsAskedOn l.fn.session l.fn.self l.self (map ListAt l.yielded);
   sent : messages_of l.sends.items ≡ messages_of l.fn.sends.items
       ++ messages_to l.fn.session (which_of l.fn.to)
-      (numbered l.fn.self.asked (map ListAt l.yielded));
+      (numbered l.fn.self.next_number (map ListAt l.yielded));
 }

@@ -14,5 +14,5 @@ returns-clause-waits c =
 
 pub returns-clause-of_session : goal.returns-clause-of_session
 returns-clause-of_session c session of =
-    subst (All (λ (one : UnansweredRequest). one.asked.value.session ≡ session))
+    subst (All (λ (one : UnansweredRequest). one.message.value.session ≡ session))
     (sym c.count_resends.ensures) (resent_of session c.args.self.now.waiting.items of)

@@ -42,7 +42,7 @@ window-preserved c =
     } in
     record {
       waits = was.waits;
-      asked = was.asked;
+      number = was.number;
       found = c.in_ok-path.ensures.found ∙ was.found;
       each = subst (All (IsNextListing old)) (sym items)
           (All-push (IsNextListing old) next path was.each one);

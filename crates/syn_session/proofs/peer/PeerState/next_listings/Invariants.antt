@@ -7,7 +7,7 @@ use Rattle.syn_session.proofs.peer.PeerState.next_listings.Given as goal
 abbrev pub invariant-window : goal.invariant-window
 invariant-window l = record {
   waits : l.self.waiting ≡ l.fn.self.waiting;
-  asked : l.self.asked ≡ l.fn.self.asked;
+  number : l.self.next_number ≡ l.fn.self.next_number;
   found : found_of l.self.scan ≡ found_of l.fn.self.scan;
   each : All (IsNextListing l.fn.self) l.next.items;
   apart : AllPairs (λ one other. one ≢ other) l.next.items;

@@ -26,7 +26,7 @@ pub returns-in-Some-clause-request : goal.returns-in-Some-clause-request
 returns-in-Some-clause-request c =
     let at = place (goal.at.returns-in-Some-clause-request c).After-remove in
     sym (asks_at c.args.self.now.waiting.items c.in-Some.at c.args.number c.remove.result at.0 at.1
-    at.2 ∙ ap (λ (one : UnansweredRequest). Some (request_of one.asked.value.request))
+    at.2 ∙ ap (λ (one : UnansweredRequest). Some (request_of one.message.value.request))
     (sym c.remove.ensures.value))
 
 pub returns-in-Some-clause-some : goal.returns-in-Some-clause-some
@@ -37,7 +37,7 @@ returns-in-Some-clause-some c =
           ap (map outstanding_of) c.remove.ensures.items
           ∙ removed_at was c.in-Some.at c.args.number c.remove.result at.0 at.1 at.2 rising;
       of_session = λ session of.
-          subst (All (λ (one : UnansweredRequest). one.asked.value.session ≡ session))
+          subst (All (λ (one : UnansweredRequest). one.message.value.session ≡ session))
           (sym c.remove.ensures.items) (taken_of session was c.in-Some.at at.0 of);
     }
 

@@ -20,13 +20,13 @@ returns c archive running is = resent_so archive c.args.self.now _ running is re
         record {
           waits = c.count_resend.ensures.waits;
           of_session = c.count_resend.ensures.of_session;
-          asked = c.count_resend.ensures.asked;
+          number = c.count_resend.ensures.number;
           scan = c.count_resend.ensures.scan;
         }
     again Right =
         record {
           waits = c.count_resend-2.ensures.waits;
           of_session = c.count_resend-2.ensures.of_session;
-          asked = c.count_resend-2.ensures.asked;
+          number = c.count_resend-2.ensures.number;
           scan = c.count_resend-2.ensures.scan;
         }

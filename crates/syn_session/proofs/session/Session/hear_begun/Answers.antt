@@ -1,4 +1,5 @@
-use Rattle.std.proofs.Common.{◌≡◌, ◌∙◌, [], ap, map, refl, rules, sym, inl}
+use Rattle.std.proofs.Common.{◌≡◌, ◌∙◌, [], ap, length, map, refl, rules, sym, inl}
+use Rattle.std.specs.Prelude.{nat_lt}
 use Rattle.syn_headline.specs.Coordinator.{hearing}
 use Rattle.syn_headline.specs.Network.{Left, Right, Which}
 use Rattle.syn_headline.specs.Side.{Begin, ListAt}
@@ -6,6 +7,7 @@ use Rattle.syn_message.specs.Replies.{reply_of}
 use Rattle.syn_path.specs.Sides.{which_of}
 use Rattle.syn_session.specs.Answering.{asks_of, exchange_of}
 use Rattle.syn_session.specs.Hearing.{at_once}
+use Rattle.syn_session.specs.Stages.{peer_of, waiting_of}
 use Rattle.syn_session.specs.declared.session.Asks.TheVariants.{Listings}
 use Rattle.syn_session.proofs.HearingLemmas.{begun_heard, begun_lines, begun_out, both_begun}
 use Rattle.syn_session.proofs.HearingLemmas.{tells_before}
@@ -25,8 +27,8 @@ returns-in_err-check_begun c = record {
       (reply_of c.args.reply) is answers scans c.args.self.now refl (λ _. refl) refl));
 }
 
-pub returns-then-waits_across : goal.returns-then-waits_across
-returns-then-waits_across c = record {
+pub returns-then-waits_on : goal.returns-then-waits_on
+returns-then-waits_on c = record {
   step = λ archive before running number pair is answers scans.
       let side = which_of c.args.from in
       let said = c.in_ok-check_begun.ensures running.taken side pair in (
@@ -35,14 +37,15 @@ returns-then-waits_across c = record {
             (reply_of c.args.reply) is answers scans pair said.1 refl said.2,
         waits_on archive before c.args.self.now running side number (Begin pair)
             (reply_of c.args.reply) is answers scans pair said.1 refl said.2
-            (some_wait _ (sym c.waits_across.ensures ∙ c.if-waits_across.true))
-            (Listings c.new.result c.new-then-waits_across.result) nothing,
+            (some_wait _ (ap (λ on. nat_lt 0 (length (waiting_of (peer_of c.args.self.now on))))
+            (sym c.other.ensures) ∙ (sym c.waits_on.ensures ∙ c.if-waits_on.true)))
+            (Listings c.new.result c.new-then-waits_on.result) nothing,
       );
 }
   where
-    nothing : (on : Which) → asks_of (Listings c.new.result c.new-then-waits_across.result) on ≡ []
+    nothing : (on : Which) → asks_of (Listings c.new.result c.new-then-waits_on.result) on ≡ []
     nothing Left = ap (map ListAt) c.new.ensures.items
-    nothing Right = ap (map ListAt) c.new-then-waits_across.ensures.items
+    nothing Right = ap (map ListAt) c.new-then-waits_on.ensures.items
 
 pub returns : goal.returns
 returns c = record {
@@ -50,7 +53,9 @@ returns c = record {
       let side = which_of c.args.from in
       let reply = reply_of c.args.reply in
       let said = c.in_ok-check_begun.ensures running.taken side pair in
-      let silent = none_wait _ (sym c.waits_across.ensures ∙ c.if-waits_across.false) in
+      let across = ap (λ on. nat_lt 0 (length (waiting_of (peer_of c.args.self.now on))))
+      (sym c.other.ensures) in
+      let silent = none_wait _ (across ∙ (sym c.waits_on.ensures ∙ c.if-waits_on.false)) in
       let heard = hearing running (exchange_of side number (Begin pair) reply) in
       let has = begun_heard archive before c.args.self.now running side number
       (Begin pair) reply is answers scans pair said.1 refl said.2 in

@@ -14,7 +14,7 @@ pub returns-clause-begun : goal.returns-clause-begun
 returns-clause-begun c archive =
     session_begins archive _ (option_map which_of c.args.preference) c.args.number c.args.pair refl
     refl c.ranges.number.fits refl waits
-    of asked found out
+    of numbered found out
   where
     peer : Which → PeerState
     peer Left = c.in_ok-left.left
@@ -28,9 +28,9 @@ returns-clause-begun c archive =
     of Left = c.in_ok-left.ensures.of_session
     of Right = c.in_ok-right.ensures.of_session
 
-    asked : (side : Which) → (peer side).asked ≡ 1
-    asked Left = c.in_ok-left.ensures.asked
-    asked Right = c.in_ok-right.ensures.asked
+    numbered : (side : Which) → (peer side).next_number ≡ 1
+    numbered Left = c.in_ok-left.ensures.number
+    numbered Right = c.in_ok-right.ensures.number
 
     found : (side : Which) → IsFoundIn (found_of (peer side).scan) side []
     found Left = c.in_ok-left.ensures.found Left

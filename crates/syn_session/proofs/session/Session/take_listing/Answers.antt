@@ -18,7 +18,12 @@ returns-in-Left-clause-step c taken number =
       number = self.number;
       preference = self.preference;
       left =
-          record { waiting = self.left.waiting; asked = self.left.asked; scan = c.take.new.self };
+          record {
+            waiting = self.left.waiting;
+            next_number = self.left.next_number;
+            scan =
+                c.take.new.self;
+          };
       right = self.right;
       progress = self.progress;
     } in
@@ -39,7 +44,7 @@ returns-in-Right-clause-step c taken number =
       left = self.left;
       right = record {
         waiting = self.right.waiting;
-        asked = self.right.asked;
+        next_number = self.right.next_number;
         scan = c.take-in-Right.new.self;
       };
       progress = self.progress;

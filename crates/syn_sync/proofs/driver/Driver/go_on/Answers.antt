@@ -23,13 +23,7 @@ loop-init g c = record {
   calm = c.requires.goes;
 }
 
--- the session has ended, no side is read any more, or the loop is at its end
-pub returns-then-not-is_running : goal.returns-then-not-is_running
-returns-then-not-is_running g c = λ pair machine stands. (
-  states_of {R = g.row.R.Denot} {W = g.row.W.Denot} g.R.Read.remaining c.loop.self,
-  c.loop.invariant.drives pair machine stands,
-)
-
+-- no side is read any more, as once the session has ended, or the loop is at its end
 pub returns-in_default : goal.returns-in_default
 returns-in_default g c = λ pair machine stands. (
   states_of {R = g.row.R.Denot} {W = g.row.W.Denot} g.R.Read.remaining c.loop.self,

@@ -27,7 +27,7 @@ returns-in-None g c model is = steps (record {
 pub returns-in-Ok : goal.returns-in-Ok
 returns-in-Ok g c model is =
     let sending = c.in-Some-Asks.sending in
-    let asked = sending.asked.value in
+    let message = sending.message.value in
     let to = which_of sending.to in
     let session = c.deref-in-Some-Asks.result.now.session in
     steps (c.deliver_request.ensures model c.args.message is
@@ -36,9 +36,10 @@ returns-in-Ok g c model is =
     (ap (λ l. slice_get l c.args.message) (sym c.deref.ensures.value)
     ∙ (slice_get_read _ _ _ _ refl c.in-Some-Asks.ensures.lookup.3.0
     c.in-Some-Asks.ensures.lookup.1 ∙ ap (λ m. Some m) c.in-Some-Asks.field-0-is))
-    ∙ (ap (λ (m : RequestMessage). Some (Asks to m.session asked.number (request_of asked.request)))
+    ∙ (ap (λ (m : RequestMessage). Some (Asks to m.session message.number (request_of
+    message.request)))
     (sym c.deref-in-Some-Asks.ensures)
-    ∙ (ap (λ (m : RequestMessage). Some (Asks to session m.number (request_of asked.request)))
+    ∙ (ap (λ (m : RequestMessage). Some (Asks to session m.number (request_of message.request)))
     (sym c.deref-in-Some-Asks-2.ensures)
     ∙ ap (λ r. Some (Asks to session c.deref-in-Some-Asks-2.result.now.number r))
     (ap (λ (m : RequestMessage). request_of m.request) (sym c.deref-in-Some-Asks-3.ensures)

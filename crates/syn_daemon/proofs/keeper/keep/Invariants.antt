@@ -1,5 +1,0 @@
-use Rattle.syn_daemon.proofs.keeper.keep.Given as goal
-use Rattle.syn_shared.specs.Shared.{IsFor}
-
-abbrev pub invariant-loop : goal.invariant-loop
-invariant-loop g l = IsFor l.server.shared.now l.pass
