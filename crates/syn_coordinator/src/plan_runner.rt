@@ -210,8 +210,8 @@ impl<D: Disk> PlanRunner<D> {
     /// A copy of the record that the last call that could write was refused 9. Refused where
     /// memory is refused.
     pub(crate) fn copy_in_doubt(&self, alloc: Global) -> Result<InDoubt, AllocError>
-        ensures { IfOk result (λ in_doubt. (tried : Option TriedRecord)
-            → in_doubt_by in_doubt tried ≡ in_doubt self.now) }
+        ensures { IfOk result (λ copy. (tried : Option TriedRecord)
+            → in_doubt_by copy tried ≡ in_doubt self.now) }
     {
         let Some(kept) = self.in_doubt() else {
             return Ok(InDoubt::Nothing);
@@ -221,9 +221,9 @@ impl<D: Disk> PlanRunner<D> {
 
     /// Answers the tried record where the archive, which was opened again, has it, and forgets what
     /// was tried. The copy stays as what `kept` tells. On a stopped machine it does nothing.
-    pub(crate) fn recovered(&mut self, in_doubt: InDoubt) -> Option<Kept>
-        requires in_doubt { (tried : Option TriedRecord) → in_doubt_by in_doubt tried ≡
-            in_doubt self.old }
+    pub(crate) fn recovered(&mut self, copy: InDoubt) -> Option<Kept>
+        requires copy { (tried : Option TriedRecord)
+            → in_doubt_by copy tried ≡ in_doubt self.old }
         ensures goes { is_stopped (D.Disk.arms (disk_of self.new.archive)) ≡ false
             → (self.new.tried ≡ None) × (option_map kept_of result
             ≡ found_in self.old.tried self.new.archive) }
@@ -235,10 +235,10 @@ impl<D: Disk> PlanRunner<D> {
         ensures in_doubt { in_doubt self.new ≡ in_doubt self.old }
     {
         if self.archive.is_cut() {
-            drop(in_doubt);
+            drop(copy);
             return None;
         }
-        self.in_doubt = in_doubt;
+        self.in_doubt = copy;
         recovered_record(self.tried.take(), &self.archive)
     }
 }

@@ -100,11 +100,11 @@ impl<D: Disk> Coordinator<D> {
         ensures failures { CountsFailures (ended refusal_of result)
             (D.Disk.failures (device_of self.old)) (D.Disk.failures (device_of self.new)) }
     {
-        let in_doubt = self.runner.copy_in_doubt(alloc)?;
+        let copy = self.runner.copy_in_doubt(alloc)?;
         match self.runner.archive.reopen(alloc) {
-            Ok(()) => Ok(self.runner.recovered(in_doubt)),
+            Ok(()) => Ok(self.runner.recovered(copy)),
             Err(error) => {
-                drop(in_doubt);
+                drop(copy);
                 Err(error)
             }
         }

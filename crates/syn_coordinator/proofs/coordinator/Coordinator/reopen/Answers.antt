@@ -52,8 +52,8 @@ returns-in-Err-clause-memory g c pair machine stands other =
           (c.in-Err.ensures.world pair machine.journal is))),
     )
 
-pub returns-in_err-in_doubt-clause-memory : goal.returns-in_err-in_doubt-clause-memory
-returns-in_err-in_doubt-clause-memory g c pair machine stands =
+pub returns-in_err-copy-clause-memory : goal.returns-in_err-copy-clause-memory
+returns-in_err-copy-clause-memory g c pair machine stands =
     if_err_of_exit c.from_residual.result _ _ c.from_residual.ensures.1
     (λ other. (
       refl,
