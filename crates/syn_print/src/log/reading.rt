@@ -38,7 +38,12 @@ pub fn read_log<D: Disk + Drop>(alloc: Global, disk: D) -> Result<Vec<Logged>, R
     let (older, newer) = image.trail.touches();
     push_touches(alloc, &mut logged, older)?;
     push_touches(alloc, &mut logged, newer)?;
-    push_events(alloc, &mut logged, image.trail.position(), &opened.contents.payloads)?;
+    push_events(
+        alloc,
+        &mut logged,
+        image.trail.position(),
+        &opened.contents.payloads,
+    )?;
     Ok(logged)
 }
 
