@@ -22,7 +22,7 @@
 //!
 //! - Status 0 only where the words ask for a command, the help or the version; status 2 only where
 //!   they ask for none.
-//! - `read_words` gives a line only where `clap` finds no fault and the values are the line's
+//! - `read_words` gives a command only where `clap` finds no fault and the values are the command's
 //!   (`ok`). A refusal by `clap` has a kind that `clap` states of the words (`usage`). The only
 //!   other mistakes, with all values given, are wrong values. A KIND is neither `replica` nor
 //!   `archive`, or a SIDE neither `left` nor `right`. A PAIR or an N is no number below 2^64, a
@@ -33,9 +33,9 @@
 //!   has the lock to write (`take_lock` of `syn_disk`, `format_file`: `held`).
 //! - Words that ask for nothing are told as such (`mistaken`), and what `simulate` prints is the
 //!   run of the script that it read (`PrintsRun`).
-//! - That the file of the line is the one that is opened, that no file has the number of a standard
-//!   stream, and that a refusal begins with the line `syn: refused N NAME` on standard error, is
-//!   shown by tests alone.
+//! - That the file of the command is the one that is opened, that no file has the number of a
+//!   standard stream, and that a refusal begins with the line `syn: refused N NAME` on standard
+//!   error, is shown by tests alone.
 #![tactic(auto)]
 
 mod command;

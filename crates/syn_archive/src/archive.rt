@@ -202,10 +202,10 @@ impl<D: Disk> Archive<D> {
     ///
     /// Refused 6 at the root, 2 where the parent is no directory, and 7 where the archive would
     /// pass a limit. A directory that is recorded already is refused nothing.
-    pub fn fits(&self, kept: &ItemRecord) -> Result<(), ArchiveError>
-        ensures { refusal_in result ≡ kept_refusal (shown self.now) (kept_for kept.now) }
+    pub fn fits(&self, item_record: &ItemRecord) -> Result<(), ArchiveError>
+        ensures { refusal_in result ≡ kept_refusal (shown self.now) (kept_for item_record.now) }
     {
-        match kept {
+        match item_record {
             ItemRecord::Record(path, marks) => Ok(self.tree().check_replace(path, marks.as_ref())?),
             ItemRecord::Dir(path) => self.fits_dir(path),
         }

@@ -1,4 +1,4 @@
-//! The line of each command, from the values that `clap` matches.
+//! Each command, from the values that `clap` matches.
 ghost use Rattle.std.specs.Prelude.{◌≡◌, IfOk, IfErr};
 ghost use Rattle.clap.specs.Words.{found_of, rows_of};
 ghost use Rattle.syn_cli.specs.Reads.{HasExisting, HasMode, HasNumber, HasOnStranger, HasText};
@@ -24,7 +24,7 @@ use clap::ArgMatches;
 use syn_path::Side;
 use syn_tree::Mode;
 
-/// The line of the command, or the first value of it that is missing or wrong.
+/// The values of the command, or the first value of it that is missing or wrong.
 pub(crate) fn command_of<'a>(
     verb: Verb,
     matches: &ArgMatches<'a>,

@@ -1,4 +1,4 @@
--- The edit that a line asks for.
+-- The edit that a command asks for.
 use Rattle.std.specs.Prelude.{◌≡◌, Option, Some}
 use Rattle.syn_model.specs.Path.{Bytes, Path}
 use Rattle.syn_model.specs.Event.{Event, Edited, Edit, Put, MakeDir, Remove, Chmod}
@@ -19,6 +19,6 @@ edit_asked kind.MakeDir path left = MakeDir path
 edit_asked kind.Remove path left = Remove path
 edit_asked (kind.Chmod mode) path left = Chmod path (mode_of mode)
 
--- the same as an event of the line's user
+-- the same as an event of the command's user
 abbrev pub event_asked : EditCommand → Path → Bytes → Event
 event_asked line path left = Edited line.user (edit_asked line.kind path left)

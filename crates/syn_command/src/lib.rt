@@ -1,18 +1,18 @@
 //! What a command does with a disk, why it is refused, and the status that it ends with.
 //!
-//! An image on a disk is opened, made, shown and checked, an edit of a replica is made as a line
+//! An image on a disk is opened, made, shown and checked, an edit of a replica is made as a command
 //! asks for it, and of two servers it is told what a session would do. How a command came out is
 //! told on standard error, and is the exit status. Which disk it is, is the caller's to say:
 //! nothing here opens a file or a connection.
 //!
 //! # What it promises
 //!
-//! - `make_edit`, over any disk and any reader, makes the edit that the line asks for at the path
-//!   that the line names. Where it answers, the history has one more event, by the line's user, and
-//!   a put is of all that was left of the input (`acknowledged`). At any moment the disk stands for
-//!   the history, or for it with that event (`any_moment`). An edit that the history refuses is
-//!   refused so (`refused`), and each refusal has its cause (`cause`). After one other than 9 the
-//!   replica stands as it did (`unchanged`).
+//! - `make_edit`, over any disk and any reader, makes the edit that the command asks for at the
+//!   path that the command names. Where it answers, the history has one more event, by the
+//!   command's user, and a put is of all that was left of the input (`acknowledged`). At any moment
+//!   the disk stands for the history, or for it with that event (`any_moment`). An edit that the
+//!   history refuses is refused so (`refused`), and each refusal has its cause (`cause`). After one
+//!   other than 9 the replica stands as it did (`unchanged`).
 //! - `open_image`, over any disk, answers an archive where the disk has one (`archive`), and a
 //!   replica where it has one (`replica`). What it answers is what the disk gives (`given`), and
 //!   begins with the letters of its kind (`letters`). Nothing is written (`untouched`). A refusal

@@ -20,7 +20,7 @@ struct Told {
     done: u32,
     /// How many items were refused.
     refused: usize,
-    /// How many items were settled, those among them.
+    /// How many items were settled: carried, marked or refused, and at the end the conflicts.
     settled: u64,
     /// How many items the plan has.
     planned: usize,
@@ -140,7 +140,7 @@ impl<W: Write> SessionWatch for SessionProgress<W> {
     fn settled(&mut self, settled: &SettledItems<'_>, kept: &[Kept]) {
         self.told.planned = match settled.planned {
             Some(items) => items,
-            // There is no plan yet, or the session has ended, maybe in the reply that made it.
+            // The plan is not made yet, or its session has ended, maybe in the reply that made it.
             None => self.told.planned.max(count_of(settled)),
         };
         let mut is_carried = settled.done > self.told.done;

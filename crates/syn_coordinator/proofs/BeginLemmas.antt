@@ -46,7 +46,7 @@ use Rattle.syn_coordinator.specs.inner.Walking.{ComesToAsk, Ends, IsAtItem}
 use Rattle.syn_session.specs.Passing.{first_reached}
 use Rattle.syn_session.proofs.AnswerLemmas.{heard_so}
 use Rattle.syn_session.proofs.HearLemmas.{found_still}
-use Rattle.syn_coordinator.proofs.CarryLemmas.{asks_course, ends_course}
+use Rattle.syn_coordinator.proofs.CarryLemmas.{asks_progress, ends_progress}
 use Rattle.syn_session.proofs.TellingLemmas.{either_nothing, scans_further}
 use Rattle.syn_session.proofs.TellingLemmas.{tells_heard}
 use Rattle.syn_coordinator.proofs.MakingLemmas.{made_of, makes_plan}
@@ -112,13 +112,13 @@ module _ {D : Type 0} {disk : Ghosts D} (old : PlanRunner D disk) (pair : ℕ) (
 
   module _ (made : PlanProgress) (left right : Found) (same_left : left ≡ found_on session Left)
       (same_right : right ≡ found_on session Right)
-      (course_is : IsPlanProgress made left right (first_reached (plan_in made left right))) where
+      (progress_is : IsPlanProgress made left right (first_reached (plan_in made left right))) where
     abbrev first : Reached
     first = first_reached (plan_in made left right)
 
     pub at_first : IsAtItem made left right (running.taken ++ taken ∷ []) first
     at_first = record {
-      course_is = course_is;
+      progress_is = progress_is;
       asked =
           λ exchange has. scanned_before (plan_in made left right) made.cursor exchange.request
           (heard.of_scan exchange has);
@@ -151,7 +151,7 @@ module _ {D : Type 0} {disk : Ghosts D} (old : PlanRunner D disk) (pair : ℕ) (
         begins_asking asks so =
             subst (λ k. TakesOn new.archive pair journal running taken later k asks)
             (sym (so.1 ∙ ap (λ l. l ++ so.0) nothing))
-            (asks_course new.archive pair journal running taken later progress refl
+            (asks_progress new.archive pair journal running taken later progress refl
             (heard_with session (Some progress) (hearing running taken) heard.heard_is)
             (found_with session (Some progress) heard.found)
             (silent_with session (Some progress) scanned.silent) fault first
@@ -171,7 +171,7 @@ module _ {D : Type 0} {disk : Ghosts D} (old : PlanRunner D disk) (pair : ℕ) (
         begins_ending ended so =
             subst (λ k. TakesEnd new.archive new.tried pair journal running taken later k ended)
             (sym (so.1 ∙ ap (λ l. l ++ so.0) nothing))
-            (ends_course new.archive pair journal running taken later progress refl
+            (ends_progress new.archive pair journal running taken later progress refl
             (heard_with session (Some progress) (hearing running taken) heard.heard_is)
             (found_with session (Some progress) heard.found)
             (silent_with session (Some progress) scanned.silent) fault first
@@ -335,10 +335,10 @@ module _ (pair : ℕ) (journal : Journal) (before session : Session) (running : 
           (λ _. lists_none c side request it))
 
       tells_before : IsPlanProgress later left right (reached_by running) → Tells next running
-      tells_before course_is = record {
+      tells_before progress_is = record {
         number = is.number ∙ sym answers.number_is;
         found = found_with session (Some later) found_before;
-        told = (left, right, course_is);
+        told = (left, right, progress_is);
       }
 
       carries_asking : (asks : Asks) → CarriesOn old new pair taken journal
@@ -347,7 +347,7 @@ module _ (pair : ℕ) (journal : Journal) (before session : Session) (running : 
       carries_asking asks so =
           subst (λ k. TakesOn new.archive pair journal running taken next k asks)
           (sym (so.asks_so.1 ∙ ap (λ l. l ++ so.asks_so.0) nothing))
-          (asks_course new.archive pair journal running taken next later refl heard
+          (asks_progress new.archive pair journal running taken next later refl heard
           (found_next so.fault) (silent_with session (Some later) silent_now) so.fault
           (reached_by running) refl refl refl [] stays so.asks_so.0 asks
           (subst (λ r. ComesToAsk new.archive pair taken journal (reached_by running) so.asks_so.0
@@ -359,13 +359,13 @@ module _ (pair : ℕ) (journal : Journal) (before session : Session) (running : 
       carries_ending : (ended : SessionEnd) → EndsCarrying old new pair taken journal
           (reached_by running) later left right running.taken ended →
           TakesEnd new.archive new.tried pair journal running taken next (written new) ended
-      carries_ending ended (ending.at_once why fault same is_machine quiet course_is) =
-          taking.at_once why fault (tells_before course_is) is_machine (same ∙ nothing)
+      carries_ending ended (ending.at_once why fault same is_machine quiet progress_is) =
+          taking.at_once why fault (tells_before progress_is) is_machine (same ∙ nothing)
           (tries_none new.tried journal quiet.0 quiet.1)
       carries_ending ended (ending.afterwards how fault so) =
           subst (λ k. TakesEnd new.archive new.tried pair journal running taken next k ended)
           (sym (so.1 ∙ ap (λ l. l ++ so.0) nothing))
-          (ends_course new.archive pair journal running taken next later refl heard
+          (ends_progress new.archive pair journal running taken next later refl heard
           (found_next fault) (silent_with session (Some later) silent_now) fault (reached_by
           running) refl refl refl
           [] stays new.tried so.0 ended

@@ -177,7 +177,7 @@ heard_reaching session running taken after h =
 
 module _ {D : Type 0} {disk : Ghosts D} (new : Archive D disk) (pair : ℕ) (journal : Journal)
     (running : Running) (taken : Exchange) (session : Session) (progress : PlanProgress)
-    (is_course : session.progress ≡ Some progress)
+    (is_progress : session.progress ≡ Some progress)
     (heard : IsHeard session (hearing running taken))
     (found : IsFoundOnBoth session (running.taken ++ taken ∷ []))
     (silent : (side : Which) → waiting_of (peer_of session side) ≡ [])
@@ -185,14 +185,14 @@ module _ {D : Type 0} {disk : Ghosts D} (new : Archive D disk) (pair : ℕ) (jou
     (same_cursor : before.cursor ≡ running.cursor)
     (same_refused : before.refused ≡ running.refused) (same_kept : before.kept ≡ running.kept)
     (logged : Log) (has : HasPlan journal.value (hearing running taken) before.plan logged) where
-  tells_course : (after : Reached) →
+  tells_progress : (after : Reached) →
       IsPlanProgress progress (found_on session Left) (found_on session Right) after →
       Tells session (reaching running taken after)
-  tells_course after is =
+  tells_progress after is =
       record {
         number = heard.number;
         found = found;
-        told = subst (λ c. TellsOf c after) (sym is_course) (_, _, is);
+        told = subst (λ c. TellsOf c after) (sym is_progress) (_, _, is);
       }
 
   start_is : walk_at journal before ≡ walk_at journal (reached_by running)
@@ -216,14 +216,14 @@ module _ {D : Type 0} {disk : Ghosts D} (new : Archive D disk) (pair : ℕ) (jou
   }
 
   -- it comes to its end
-  pub ends_course : (tried : Option TriedRecord) (kept : List Kept) (ended : SessionEnd) →
+  pub ends_progress : (tried : Option TriedRecord) (kept : List Kept) (ended : SessionEnd) →
       Ends new tried pair
       taken journal before kept progress (found_on session Left) (found_on session Right) ended →
       TakesEnd new tried pair journal running taken session kept ended
-  ends_course tried kept ended (ends walk after goes cursor refused has_kept why is is_at tries) =
+  ends_progress tried kept ended (ends walk after goes cursor refused has_kept why is is_at tries) =
       taking.ends ended walk after (walks_so after kept walk has_kept goes) cursor refused
-      (why (reaching running taken after) has_kept.plan) is (tells_course after is_at) tries
-  ends_course tried kept ended (goes_down walk goes stopped down leaves tries) =
+      (why (reaching running taken after) has_kept.plan) is (tells_progress after is_at) tries
+  ends_progress tried kept ended (goes_down walk goes stopped down leaves tries) =
       taking.goes_down ended walk (record before { kept = before.kept ++ kept })
       (walks_so (record before { kept = before.kept ++ kept }) kept walk
       (record { plan = refl; kept_is = refl }) goes) stopped down leaves tries
@@ -330,7 +330,7 @@ module _ {D : Type 0} {disk : Ghosts D} (new : Archive D disk) (pair : ℕ) (jou
         (running.taken ++ taken ∷ []) comes.after (λ transfer. TransferWaitsFor transfer
         (running.taken ++ taken ∷ []) (which_of wants.to) wanted))
         (sym (asking.peer Left).scan) (record {
-          course_is = comes.carries.course_is;
+          progress_is = comes.carries.progress_is;
           carrying = comes.carries.carrying;
           is_carried = comes.carries.is_carried;
           planned = comes.carries.planned;
@@ -356,7 +356,7 @@ module _ {D : Type 0} {disk : Ghosts D} (new : Archive D disk) (pair : ℕ) (jou
       quiet = comes.passes.quiet;
       is = comes.is;
       heard = heard_reaching session running taken comes.after heard;
-      tells = tells_course comes.after comes.carries.course_is;
+      tells = tells_progress comes.after comes.carries.progress_is;
       may = record {
         may_wait = may_wait_so;
         apart = apart_so;
@@ -365,13 +365,13 @@ module _ {D : Type 0} {disk : Ghosts D} (new : Archive D disk) (pair : ℕ) (jou
             (sym (only_that side request contains).1) (fresh_so side);
         may = λ side request contains.
             let that = only_that side request contains in
-            let course_is = comes.carries.course_is in
+            let progress_is = comes.carries.progress_is in
             subst (λ r. MayAsk comes.journal.value now_at side r × IsLawfulBody r) (sym that.1) (
               subst (λ w. MayAsk comes.journal.value now_at w wanted) (sym that.0)
                   (may_ask comes.journal.value now_at (plan_in progress (found_on session Left)
                   (found_on session Right)) comes.carries.planned c
-                  (kept_for comes.carries.carrying.item_record) course_is.plan progress.cursor
-                  course_is.cursor
+                  (kept_for comes.carries.carrying.item_record) progress_is.plan progress.cursor
+                  progress_is.cursor
                   comes.carries.at comes.carries.carries.spec comes.carries.carries.record_is
                   comes.carries.carries.can (which_of wants.to) wanted asked.may),
               asked.lawful,
@@ -379,7 +379,8 @@ module _ {D : Type 0} {disk : Ghosts D} (new : Archive D disk) (pair : ℕ) (jou
         some = some_so;
         stage =
             λ later asking. subst (λ o. IsStage comes.journal.value later o
-            (running.taken ++ taken ∷ []) comes.after) (sym (asking.progress ∙ is_course)) (record {
+            (running.taken ++ taken ∷ []) comes.after) (sym (asking.progress ∙ is_progress))
+            (record {
               to = which_of wants.to;
               request = wanted;
               waits = now_asks (which_of wants.to) later asking ∙ asks_own wants.to;
@@ -389,10 +390,10 @@ module _ {D : Type 0} {disk : Ghosts D} (new : Archive D disk) (pair : ℕ) (jou
       };
     }
 
-  pub asks_course : (kept : List Kept) (asks : Asks) (comes : ComesToAsk new pair taken journal
+  pub asks_progress : (kept : List Kept) (asks : Asks) (comes : ComesToAsk new pair taken journal
       before kept progress (found_on session Left) (found_on session Right)
       (running.taken ++ taken ∷ []) asks) →
       (is_last taken.reply ≡ true → comes.after.cursor ≢ running.cursor) →
       TakesOn new pair journal running taken session kept asks
-  asks_course kept (Listings left right) comes = absurd comes.carries.is
-  asks_course kept (One wants) comes = asks_one kept wants comes
+  asks_progress kept (Listings left right) comes = absurd comes.carries.is
+  asks_progress kept (One wants) comes = asks_one kept wants comes

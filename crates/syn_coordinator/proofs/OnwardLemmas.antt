@@ -47,11 +47,11 @@ module _ {D : Type 0} {disk : Ghosts D} (pair : ℕ) (taken : Exchange) (journal
     where
       plans : plan_in was left right ≡ plan_in progress left right
       plans =
-          some_in _ _ (sym out.course_is.plan
-          ∙ (sym past.3.passes.has.plan ∙ past.3.course_is.plan))
+          some_in _ _ (sym out.progress_is.plan
+          ∙ (sym past.3.passes.has.plan ∙ past.3.progress_is.plan))
 
       next : suc was.cursor ≡ progress.cursor
-      next = ap suc (sym out.course_is.cursor) ∙ past.2
+      next = ap suc (sym out.progress_is.cursor) ∙ past.2
 
   -- nothing is being written there
   pub still_quiet : IsQuiet old journal → IsQuiet middle past.3.journal
@@ -74,7 +74,7 @@ module _ {D : Type 0} {disk : Ghosts D} (pair : ℕ) (taken : Exchange) (journal
           omega (
             arith,
             past.2,
-            past.3.course_is.cursor,
+            past.3.progress_is.cursor,
             so.2.onward,
             turn_further pair taken
                 journal before left right all old middle progress come new later asks so,
@@ -104,9 +104,9 @@ pub refused_so : (pair : ℕ) (taken : Exchange) (journal : Journal) (before : R
     Passes pair taken journal before journal (refused_at before why planned) []
 refused_so pair taken journal before left right all progress planned out why refused asked =
     passes_refused pair taken journal before planned
-    (ap (λ p. slice_get (option_map_or (λ plan. plan) p []) before.cursor) out.course_is.plan
-    ∙ (ap (slice_get (plan_in progress left right)) out.course_is.cursor ∙ out.at))
-    why refused (subst (λ n. IsFor n planned taken.request) (sym out.course_is.cursor) asked)
+    (ap (λ p. slice_get (option_map_or (λ plan. plan) p []) before.cursor) out.progress_is.plan
+    ∙ (ap (slice_get (plan_in progress left right)) out.progress_is.cursor ∙ out.at))
+    why refused (subst (λ n. IsFor n planned taken.request) (sym out.progress_is.cursor) asked)
 
 module _ {D : Type 0} {disk : Ghosts D} (pair : ℕ) (taken : Exchange) (journal : Journal)
     (before : Reached) (left right : Found) (all : List Exchange) where

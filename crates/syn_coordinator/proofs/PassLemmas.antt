@@ -69,9 +69,9 @@ module _ {D : Type 0} {disk : Ghosts D} (pair : ℕ) (taken : Exchange) (journal
       record_for planned planned.item ≡ Some (kept_for carrying.item_record) → (why : Refusal) →
       Some (cause_of why) ≡ kept_refusal (shown archive) (kept_for carrying.item_record) →
       Passes pair taken journal before journal (refused_at before (cause_of why) planned) []
-  carried_unfit archive is progress course_is planned at carrying spec record_is why refused =
+  carried_unfit archive is progress progress_is planned at carrying spec record_is why refused =
       passes_unfit pair taken journal before planned
-      (at_walk before progress left right course_is planned at) (kept_for carrying.item_record)
+      (at_walk before progress left right progress_is planned at) (kept_for carrying.item_record)
       (cause_of why) record_is
       (inl (is_carried planned (spec_of carrying.transfer) progress.cursor spec))
       (ap (λ a. kept_refusal a (kept_for carrying.item_record)) (sym is.remembers) ∙ sym refused)
@@ -83,13 +83,14 @@ module _ {D : Type 0} {disk : Ghosts D} (pair : ℕ) (taken : Exchange) (journal
       IsPlanProgress progress left right before →
       slice_get (plan_in progress left right) progress.cursor ≡ None →
       Ends archive tried pair taken journal before [] progress left right PlanDone
-  ends_settled archive tried is untried quiet progress course_is none =
+  ends_settled archive tried is untried quiet progress progress_is none =
       ends (walk_at journal before) before
       (stands (walk_at journal before)) refl refl (keeps_none before)
-      (λ running same. settled (subst IsSome (sym (same ∙ course_is.plan)) refl)
-      (ap (λ p. slice_get (option_map_or (λ plan. plan) p []) before.cursor) (same ∙ course_is.plan)
-      ∙ (ap (slice_get (plan_in progress left right)) course_is.cursor ∙ none)) refl)
-      is course_is (remembers_still journal.status tried journal
+      (λ running same. settled (subst IsSome (sym (same ∙ progress_is.plan)) refl)
+      (ap (λ p. slice_get (option_map_or (λ plan. plan) p []) before.cursor) (same ∙
+      progress_is.plan)
+      ∙ (ap (slice_get (plan_in progress left right)) progress_is.cursor ∙ none)) refl)
+      is progress_is (remembers_still journal.status tried journal
       (tries_none tried journal untried quiet) _ refl)
 
   module _ (old new : PlanRunner D disk) (was later : PlanProgress) (all : List Exchange)
@@ -106,11 +107,11 @@ module _ {D : Type 0} {disk : Ghosts D} (pair : ℕ) (taken : Exchange) (journal
       where
         plans : plan_in was left right ≡ plan_in later left right
         plans =
-            some_in _ _ (sym at.course_is.plan
-            ∙ (sym past.3.passes.has.plan ∙ past.3.course_is.plan))
+            some_in _ _ (sym at.progress_is.plan
+            ∙ (sym past.3.passes.has.plan ∙ past.3.progress_is.plan))
 
         next : suc was.cursor ≡ later.cursor
-        next = ap suc (sym at.course_is.cursor) ∙ past.2
+        next = ap suc (sym at.progress_is.cursor) ∙ past.2
 
   -- memory is refused, and the progress stays
   pub ends_here : (runner : PlanRunner D disk) → IsMachine runner.archive pair journal →
@@ -118,7 +119,7 @@ module _ {D : Type 0} {disk : Ghosts D} (pair : ℕ) (taken : Exchange) (journal
       IsPlanProgress was left right before →
       later ≡ was → (how : SessionEnd) → how ≡ Early refusal.Memory →
       EndsSo runner runner pair taken journal before later left right how
-  ends_here runner is quiet was later course_is same how memory = (
+  ends_here runner is quiet was later progress_is same how memory = (
     [],
     sym (append-nil _),
     subst (λ e. Ends runner.archive runner.tried pair taken journal before
@@ -126,7 +127,7 @@ module _ {D : Type 0} {disk : Ghosts D} (pair : ℕ) (taken : Exchange) (journal
         (subst (λ c. Ends runner.archive runner.tried pair taken journal before
         [] c left right (Early refusal.Memory)) (sym same)
         (ends_for_memory runner.archive runner.tried pair taken journal before was left
-        right is quiet.0 quiet.1 course_is)),
+        right is quiet.0 quiet.1 progress_is)),
   )
 
   -- it is past the item, and nothing was written
@@ -135,16 +136,16 @@ module _ {D : Type 0} {disk : Ghosts D} (pair : ℕ) (taken : Exchange) (journal
       suc before.cursor ≡ after.cursor → Passes pair taken journal before journal after [] →
       IsPlanProgress later left right after →
       IsPast runner runner pair taken journal before later left right
-  past_here runner is quiet later after next passes course_is = (
+  past_here runner is quiet later after next passes progress_is = (
     [],
     sym (append-nil _),
-    next ∙ course_is.cursor,
+    next ∙ progress_is.cursor,
     record {
       journal = journal;
       after = after;
       passes = passes;
       is = is;
-      course_is = course_is;
+      progress_is = progress_is;
     },
     quiet.0,
   )
@@ -189,9 +190,9 @@ module _ {D : Type 0} {disk : Ghosts D} (pair : ℕ) (taken : Exchange) (journal
       after = before;
       passes = passes_none pair taken journal before;
       is = is;
-      course_is = at.course_is;
+      progress_is = at.progress_is;
     },
-    omega (arith, at.course_is.cursor),
+    omega (arith, at.progress_is.cursor),
     at.asked,
     quiet.0,
   )
@@ -200,7 +201,7 @@ module _ {D : Type 0} {disk : Ghosts D} (pair : ℕ) (taken : Exchange) (journal
       (come : HasCome first middle pair taken journal before progress left right all) where
     -- where a turn begins
     pub at_turn : IsAtItem progress left right all come.2.after
-    at_turn = record { course_is = come.2.course_is; asked = come.4 }
+    at_turn = record { progress_is = come.2.progress_is; asked = come.4 }
 
     -- and nothing is being written there
     pub still_quiet : journal.writing ≡ None → IsQuiet middle come.2.journal
@@ -219,7 +220,7 @@ module _ {D : Type 0} {disk : Ghosts D} (pair : ℕ) (taken : Exchange) (journal
           (subst (λ e. Ends middle.archive middle.tried pair taken come.2.journal come.2.after
           [] progress left right e) (sym memory)
           (ends_for_memory middle.archive middle.tried pair taken come.2.journal come.2.after
-          progress left right come.2.is come.5 (come.2.passes.quiet quiet) come.2.course_is))),
+          progress left right come.2.is come.5 (come.2.passes.quiet quiet) come.2.progress_is))),
     )
 
     module _ (last : PlanRunner D disk) (later : PlanProgress) where
@@ -237,7 +238,7 @@ module _ {D : Type 0} {disk : Ghosts D} (pair : ℕ) (taken : Exchange) (journal
         both past.0.0 past.0.1,
         comes_after pair taken journal come.2.journal before come.2.after come.0 come.2.passes
             last.archive past.0.0 later left right past.0.3,
-        omega (arith, come.3, come.2.course_is.cursor, past.0.2),
+        omega (arith, come.3, come.2.progress_is.cursor, past.0.2),
         past.1,
         past.0.4,
       )
@@ -255,7 +256,7 @@ module _ {D : Type 0} {disk : Ghosts D} (pair : ℕ) (taken : Exchange) (journal
           passes =
               passes_more pair taken journal come.2.journal before come.2.after come.0 come.2.passes
               so.2.journal so.2.after so.0 so.2.passes;
-          onward = omega (arith, come.3, come.2.course_is.cursor, so.2.onward);
+          onward = omega (arith, come.3, come.2.progress_is.cursor, so.2.onward);
           is = so.2.is;
           carries = so.2.carries;
         },

@@ -60,10 +60,10 @@ module _ {D : Type 0} {disk : Ghosts D} (new : Archive D disk) (tried : Option T
       IsMachine new pair journal →
       tried ≡ None → journal.writing ≡ None → IsPlanProgress progress left right before →
       Ends new tried pair taken journal before [] progress left right (Early refusal.Memory)
-  ends_for_memory progress left right is untried quiet course_is =
+  ends_for_memory progress left right is untried quiet progress_is =
       ends (walk_at journal before) before
       (stands (walk_at journal before)) refl refl (keeps_none before)
-      (λ running same. no_memory refl) is course_is
+      (λ running same. no_memory refl) is progress_is
       (remembers_still journal.status tried journal
       (tries_none tried journal untried quiet) _ refl)
 
@@ -115,7 +115,7 @@ module _ {D : Type 0} {disk : Ghosts D} (new : Archive D disk) (tried : Option T
             (later : PlanProgress) →
             IsPlanProgress later left right (kept_at before what) →
             Comes new pair taken journal before (what ∷ []) later left right
-        is_kept settles tries later course_is = by (became due.Recorded settles tries)
+        is_kept settles tries later progress_is = by (became due.Recorded settles tries)
           where
             by : Advanced new tried pair (plan_at before) taken (walk_at journal before) planned
                 what due.Recorded → Comes new pair taken journal before (what ∷ []) later left right
@@ -127,7 +127,7 @@ module _ {D : Type 0} {disk : Ghosts D} (new : Archive D disk) (tried : Option T
                   (up ∙ sym (was_up settles)) (λ _. (when_up new pair now is up).idle)
                   (record { plan = refl; kept_is = refl }) advances;
               is = is;
-              course_is = course_is;
+              progress_is = progress_is;
             }
             by (ended _ how later so advances cursor refused for is tries) = absurd so
             by (stopped became later advances down cut leaves tries) =
@@ -148,7 +148,7 @@ module _ {D : Type 0} {disk : Ghosts D} (new : Archive D disk) (tried : Option T
           pub is_refused : (later : PlanProgress) →
               IsPlanProgress later left right (refused_at before (cause_of why) planned) →
               Comes new pair taken journal before [] later left right
-          is_refused later course_is = by (became (due.Refused why) settles tries)
+          is_refused later progress_is = by (became (due.Refused why) settles tries)
             where
               by : Advanced new tried pair (plan_at before) taken (walk_at journal before) planned
                   what (due.Refused why) → Comes new pair taken journal before [] later left right
@@ -160,7 +160,7 @@ module _ {D : Type 0} {disk : Ghosts D} (new : Archive D disk) (tried : Option T
                     (refused_at before (cause_of why) planned) [] refl (λ was. was)
                     (record { plan = refl; kept_is = sym (append-nil before.kept) }) advances;
                 is = is;
-                course_is = course_is;
+                progress_is = progress_is;
               }
               by (ended _ how later so advances cursor refused for is tries) = absurd so
               by (stopped became later advances down cut leaves tries) =

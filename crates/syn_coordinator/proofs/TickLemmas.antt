@@ -43,7 +43,7 @@ tells_now archive session running is =
         IsStage archive session progress running.taken (reached_by running) →
         TellsOf progress (reached_by running)
     by None stage = stage.nothing
-    by (Some progress) stage = (_, _, stage.carries.course_is)
+    by (Some progress) stage = (_, _, stage.carries.progress_is)
 
 -- both run a session, or none does
 pub run_alike : (archive : model.Archive) (session : Option Ran) (running : Option Running) →

@@ -96,17 +96,17 @@ module _ (pair : ℕ) (taken : Exchange) where
             passes = passes_more comes.journal
                 comes.after more comes.passes;
             is = comes.is;
-            course_is = comes.course_is;
+            progress_is = comes.progress_is;
           }
 
       pub ends_after : (tried : Option TriedRecord) (how : SessionEnd) →
           Ends new tried pair taken middle between more progress left right how →
           Ends new tried pair taken old before (kept ++ more) progress left right how
-      ends_after tried how (ends walk after advances cursor refused has why is course_is tries) =
+      ends_after tried how (ends walk after advances cursor refused has why is progress_is tries) =
           ends walk after (led walk more advances) cursor refused
           (keeps_more before between after kept more first.has has)
           (λ running same. subst (λ s. EndsFor pair running taken s walk (ended_by how))
-          first.status (why running (same ∙ sym first.has.plan))) is course_is
+          first.status (why running (same ∙ sym first.has.plan))) is progress_is
           (subst (λ s. Remembers s tried walk.journal how) first.status tries)
       ends_after tried how (goes_down walk advances cut down leaves tries) =
           goes_down walk (led walk more advances) cut down leaves tries
@@ -178,15 +178,15 @@ module _ (pair : ℕ) (taken : Exchange) where
           IsPlanProgress progress left right before →
           Advanced new tried pair (plan_at before) taken (walk_at old before) planned what it →
           Ends new tried pair taken old before [] progress left right how
-      ends_at it how so course_is
+      ends_at it how so progress_is
           (ended _ other walk same advances cursor refused for is tries) =
           subst (Ends new tried pair taken old before [] progress left right)
           ((ends_one it how so).1 other same)
           (ends walk before advances cursor refused (keeps_none before) (λ running same. for running
-          (ap (λ plan. option_map_or (λ plan. plan) plan []) same)) is course_is tries)
-      ends_at it how so course_is (stopped _ walk advances down cut leaves tries) =
+          (ap (λ plan. option_map_or (λ plan. plan) plan []) same)) is progress_is tries)
+      ends_at it how so progress_is (stopped _ walk advances down cut leaves tries) =
           goes_down walk
           (subst (λ k. Advances pair (plan_at before) taken (walk_at old before) k walk)
           (ends_one it how so).0 advances) cut down leaves tries
-      ends_at it how so course_is (kept_it journal advances up is) = absurd so
-      ends_at it how so course_is (refused_it why advances is) = absurd so
+      ends_at it how so progress_is (kept_it journal advances up is) = absurd so
+      ends_at it how so progress_is (refused_it why advances is) = absurd so

@@ -36,7 +36,7 @@ module _ {D : Type 0} {disk : Ghosts D} (coordinator : Coordinator D disk) where
   abbrev pub report_shown : Option Report
   report_shown = option_map report_model coordinator.report
 
-  -- what the last call that could write wrote into the archive, and what was answered 9 in it
+  -- what the last call that could write wrote into the archive, and the record in doubt
   abbrev pub written : List Kept
   written = of.written coordinator.runner
 
@@ -105,11 +105,11 @@ module _ {D : Type 0} {disk : Ghosts D} (old new : Coordinator D disk) where
   abbrev pub FailsOrStops : Type 0
   FailsOrStops = of.FailsOrStops old.runner new.runner
 
-  -- a record was sent to the disk, and is told as answered 9
+  -- a record was sent to the disk, and is in doubt
   abbrev pub BreaksOff : Type 0
   BreaksOff = of.BreaksOff old.runner new.runner
 
-  -- nothing is told as answered 9: no device call failed, or none of a record
+  -- no record is in doubt: no device call failed, or none of a record
   abbrev pub TellsNone : Type 0
   TellsNone = of.TellsNone old.runner new.runner
 

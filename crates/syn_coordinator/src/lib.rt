@@ -23,9 +23,9 @@
 //!   `CoordinatorTakes`). It answers what is to be sent next, and `kept` and `report` have what it
 //!   wrote and how the session ended. The reply has to be one that can be sent (`lawful`), as the
 //!   decoder gives it.
-//! - Where a record was sent to the disk in `on_reply` and not kept, `kept` has it as what was
-//!   answered 9, which is what `tried` has. Otherwise it has none: no call failed, or one of a
-//!   checkpoint before the record did (`breaks`).
+//! - Where a record was sent to the disk in `on_reply` and not kept, it is in doubt: `kept` has it
+//!   beside what was written, and so has `tried`. Otherwise none is in doubt: no call failed, or
+//!   one of a checkpoint before the record did (`breaks`).
 //! - Where the archive of a machine that was up is halted after `start`, `on_reply` or
 //!   `checkpoint`, a device call failed in it, unless the machine stopped (`halts`).
 //! - `tried` is the record that could not be kept, until an opening. `reopen` answers it where the

@@ -37,12 +37,13 @@ pub(crate) struct PlanRunner<D: Disk> {
     in_doubt: InDoubt,
 }
 
-/// The record that the last writing call sent to the disk and that was refused 9.
+/// The record in doubt: the last writing call sent it to the disk, and a device call failed or the
+/// machine stopped before it was kept. The archive may have it when it is opened again.
 #[derive(Drop)]
 pub(crate) enum InDoubt {
     /// There is none.
     Nothing,
-    /// It stands in `tried`.
+    /// It is the record in `tried`.
     AsTried,
     /// This copy, which was made when the archive was opened again.
     Copied(Kept),
@@ -76,7 +77,7 @@ impl<D: Disk> PlanRunner<D> {
         (self.archive, self.tried)
     }
 
-    /// What the last call that could write wrote, in order, and what was answered 9 in it.
+    /// What the last call that could write wrote, in order, and the record in doubt.
     pub(crate) fn kept(&self) -> (&[Kept], Option<&Kept>)
         ensures written { map kept_of result.0.now ≡ written self.now }
         ensures in_doubt { option_map (λ kept. kept_of kept.now) result.1 ≡ in_doubt self.now }
@@ -84,7 +85,7 @@ impl<D: Disk> PlanRunner<D> {
         (&self.written, self.in_doubt())
     }
 
-    /// What was answered 9 in the last call that could write.
+    /// The record in doubt.
     fn in_doubt(&self) -> Option<&Kept>
         ensures { option_map (λ kept. kept_of kept.now) result ≡ in_doubt self.now }
     {
@@ -177,8 +178,8 @@ impl<D: Disk> PlanRunner<D> {
         }
     }
 
-    /// Keeps what is due in the archive, and tells it among what was written, or as answered 9
-    /// where it was sent to the disk and not kept. The session ends 11 where memory is refused.
+    /// Keeps what is due in the archive, and tells it among what was written, or as in doubt. The
+    /// session ends 11 where memory is refused.
     pub(crate) fn keep(&mut self, alloc: Global, item_record: ItemRecord) -> RecordOutcome
         ensures settles { (pair : ℕ) (journal : Journal)
             → IsMachine self.old.archive pair journal
@@ -207,8 +208,7 @@ impl<D: Disk> PlanRunner<D> {
         outcome
     }
 
-    /// A copy of the record that the last call that could write was refused 9. Refused where
-    /// memory is refused.
+    /// A copy of the record in doubt. Refused where memory is refused.
     pub(crate) fn copy_in_doubt(&self, alloc: Global) -> Result<InDoubt, AllocError>
         ensures { IfOk result (λ copy. (tried : Option TriedRecord)
             → in_doubt_by copy tried ≡ in_doubt self.now) }

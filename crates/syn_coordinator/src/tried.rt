@@ -1,4 +1,4 @@
-//! A record that could not be kept.
+//! A record that was sent to the disk, and may be there or not.
 ghost use Rattle.std.specs.Prelude.{◌≡◌, option_map};
 ghost use Rattle.syn_coordinator.specs.Tries.{IsTriedBy, found_in, is_in, record_of};
 ghost use Rattle.syn_image.specs.Archives.{kept_of};

@@ -23,7 +23,7 @@ mod checkpointer;
 mod console;
 mod ending;
 mod folder_side;
-mod gates;
+mod pauses;
 mod server;
 mod sessions;
 mod shares;
@@ -33,7 +33,7 @@ mod worker;
 
 pub use console::Plain;
 pub use folder_side::FolderSide;
-pub use gates::{Gates, OpenGate, OpenGates};
+pub use pauses::{NoPause, NoPauses, Pauses};
 pub use server::{Bounds, serve, serve_beside, serve_within};
 pub use sessions::{run, sync};
 pub use streams::reach;

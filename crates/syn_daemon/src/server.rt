@@ -6,7 +6,7 @@ ghost use Rattle.syn_refusal.specs.Refusals.{cause_of};
 use crate::bell::Bell;
 use crate::ending::Ending;
 use crate::folder_side::{Companion, FolderSide, FolderThread};
-use crate::gates::Gates;
+use crate::pauses::Pauses;
 use crate::shares::Shares;
 use log::{Log, info, warn};
 use std::alloc::Global;
@@ -21,7 +21,7 @@ use syn_disk::Disk;
 use syn_lock::{Naming, PassPool};
 use syn_refusal::Refusal;
 use syn_replica::Replica;
-use syn_serve::Gate;
+use syn_serve::Pause;
 use syn_shared::SharedReplica;
 
 /// How many connections a server serves at once.
@@ -71,13 +71,13 @@ pub(crate) type Server<'a, H, D, L> = Service<'a, H, SharedReplica<D>, PassPool<
 /// Refused 24 where the replica's lock has no pass left for each worker and the checkpointer, and
 /// 11 where memory is refused or the checkpointer's thread cannot be made: nobody was served.
 /// Passes that were given stay out, also after an Ok.
-pub fn serve<H: Threads + Wait + Clock + Log + Sync, D: Disk + Send, G: Gates>(
+pub fn serve<H: Threads + Wait + Clock + Log + Sync, D: Disk + Send, G: Pauses>(
     rt: &H,
     alloc: Global,
     shared: &SharedReplica<D>,
     listener: &TcpListener,
     connections: Option<u64>,
-    gates: &G,
+    pauses: &G,
 ) -> Result<(), Refusal>
     ensures { IfErr result (λ why. (cause_of why ≡ NoSeat) ⊎ (cause_of why ≡ Memory)) }
 {
@@ -86,7 +86,7 @@ pub fn serve<H: Threads + Wait + Clock + Log + Sync, D: Disk + Send, G: Gates>(
         workers: WORKERS,
         least_room: LEAST_ROOM,
     };
-    serve_within(rt, alloc, shared, listener, bounds, gates)
+    serve_within(rt, alloc, shared, listener, bounds, pauses)
 }
 
 /// Serves, and keeps a folder the same as the replica meanwhile, by a thread of its own: so it
@@ -102,13 +102,13 @@ pub fn serve_beside<H, D, G, F, A>(
     shared: &SharedReplica<D>,
     listener: &TcpListener,
     connections: Option<u64>,
-    gates: &G,
+    pauses: &G,
     side: FolderSide<'_, F, A>,
 ) -> Result<(), Refusal>
 where
     H: Threads + Wait + Clock + Log + Sync,
     D: Disk + Send,
-    G: Gates,
+    G: Pauses,
     F: Files + Sync,
     F::File: Send,
     F::Dir: Send,
@@ -129,7 +129,7 @@ where
         ending: &ending,
     };
     serve_with(
-        rt, alloc, shared, listener, bounds, gates, companion, &ending,
+        rt, alloc, shared, listener, bounds, pauses, companion, &ending,
     )
 }
 
@@ -142,14 +142,14 @@ fn serve_with<H, D, G, C>(
     shared: &SharedReplica<D>,
     listener: &TcpListener,
     bounds: Bounds,
-    gates: &G,
+    pauses: &G,
     companion: C,
     ending: &Ending,
 ) -> Result<(), Refusal>
 where
     H: Threads + Wait + Clock + Log + Sync,
     D: Disk + Send,
-    G: Gates,
+    G: Pauses,
     C: Companion + Send + Drop,
     ensures { IfErr result (λ why. (cause_of why ≡ NoSeat) ⊎ (cause_of why ≡ Memory)) }
 {
@@ -162,7 +162,7 @@ where
             if !start_companion(scope, companion) {
                 return Err(Refusal::Memory);
             }
-            let served = serve_within(rt, alloc, shared, listener, bounds, gates);
+            let served = serve_within(rt, alloc, shared, listener, bounds, pauses);
             ending.tell(rt);
             served
         },
@@ -180,17 +180,17 @@ fn start_companion<'s, E, C: Companion + Send + Drop + 's>(
 /// Serves with other numbers of connections and workers and other room.
 ///
 /// Refused as `serve` is.
-pub fn serve_within<H: Threads + Wait + Clock + Log + Sync, D: Disk + Send, G: Gates>(
+pub fn serve_within<H: Threads + Wait + Clock + Log + Sync, D: Disk + Send, G: Pauses>(
     rt: &H,
     alloc: Global,
     shared: &SharedReplica<D>,
     listener: &TcpListener,
     bounds: Bounds,
-    gates: &G,
+    pauses: &G,
 ) -> Result<(), Refusal>
     ensures { IfErr result (λ why. (cause_of why ≡ NoSeat) ⊎ (cause_of why ≡ Memory)) }
 {
-    serve_shared::<H, Replica<D>, SharedReplica<D>, G>(rt, alloc, shared, listener, bounds, gates)
+    serve_shared::<H, Replica<D>, SharedReplica<D>, G>(rt, alloc, shared, listener, bounds, pauses)
 }
 
 /// Gives the lock of a state a name, which the type of its pools carries, and serves the state.
@@ -202,16 +202,16 @@ fn serve_shared<H, S, X, G>(
     shared: &X,
     listener: &TcpListener,
     bounds: Bounds,
-    gates: &G,
+    pauses: &G,
 ) -> Result<(), Refusal>
 where
     H: Threads + Wait + Clock + Log + Sync,
     S: Send,
     X: Shares<S> + Sync,
-    G: Gates,
+    G: Pauses,
     ensures { IfErr result (λ why. (cause_of why ≡ NoSeat) ⊎ (cause_of why ≡ Memory)) }
 {
-    serve_under::<H, S, X, G, Brand>(rt, alloc, shared, listener, bounds, gates)
+    serve_under::<H, S, X, G, Brand>(rt, alloc, shared, listener, bounds, pauses)
 }
 
 /// Fills both pools with passes of the lock that `L` names, and starts the threads.
@@ -223,13 +223,13 @@ fn serve_under<H, S, X, G, L>(
     shared: &X,
     listener: &TcpListener,
     bounds: Bounds,
-    gates: &G,
+    pauses: &G,
 ) -> Result<(), Refusal>
 where
     H: Threads + Wait + Clock + Log + Sync,
     S: Send,
     X: Shares<S> + Sync,
-    G: Gates,
+    G: Pauses,
     L: Naming<S> + Send + Sync,
     requires { (X.lock_in shared.now ≡ L.lock) × (X.origin_in shared.now ≡ L.origin) }
     ensures { IfErr result (λ why. (cause_of why ≡ NoSeat) ⊎ (cause_of why ≡ Memory)) }
@@ -252,7 +252,7 @@ where
         least_room: bounds.least_room,
     };
     let most = bounds.connections.unwrap_or(u64::MAX);
-    if serve_all(rt, &server, &server.bell, listener, most, gates) {
+    if serve_all(rt, &server, &server.bell, listener, most, pauses) {
         Ok(())
     } else {
         Err(Refusal::Memory)
@@ -275,7 +275,7 @@ pub(crate) trait Host {
     ghost is_ready: { Self → Type 0 };
 
     /// The work of a connection's thread.
-    fn work_on<G: Gate + Drop>(&self, stream: TcpStream, number: u64, gate: G)
+    fn work_on<G: Pause + Drop>(&self, stream: TcpStream, number: u64, pause: G)
         requires { is_ready self.now };
 
     /// The work of the checkpointer's thread.
@@ -292,8 +292,8 @@ where
     ghost is_ready = { λ s. (X.lock_in s.shared.now ≡ L.lock)
         × (X.origin_in s.shared.now ≡ L.origin) };
 
-    fn work_on<G: Gate + Drop>(&self, stream: TcpStream, number: u64, gate: G) {
-        X::work_on(self, stream, number, gate);
+    fn work_on<G: Pause + Drop>(&self, stream: TcpStream, number: u64, pause: G) {
+        X::work_on(self, stream, number, pause);
     }
 
     fn run_checkpointer(&self) {
@@ -309,12 +309,12 @@ fn serve_all<H, T, G>(
     bell: &Bell,
     listener: &TcpListener,
     most: u64,
-    gates: &G,
+    pauses: &G,
 ) -> bool
 where
     H: Threads + Wait + Clock + Log + Sync,
     T: Host + Sync,
-    G: Gates,
+    G: Pauses,
     requires { T.is_ready server.now }
 {
     thread::scope(
@@ -327,7 +327,7 @@ where
                 return false;
             }
             info!(rt; "serving");
-            serve_connections(rt, server, listener, most, gates);
+            serve_connections(rt, server, listener, most, pauses);
             bell.end(rt);
             true
         },
@@ -348,11 +348,11 @@ fn start_checkpointer<'s, E, T: Host + Sync>(scope: &Scope<'s, E>, server: &'s T
 }
 
 /// Serves so many connections, and joins the thread of each.
-fn serve_connections<H, T, G>(rt: &H, server: &T, listener: &TcpListener, most: u64, gates: &G)
+fn serve_connections<H, T, G>(rt: &H, server: &T, listener: &TcpListener, most: u64, pauses: &G)
 where
     H: Threads + Wait + Clock + Log + Sync,
     T: Host + Sync,
-    G: Gates,
+    G: Pauses,
     requires { T.is_ready server.now }
 {
     thread::scope(
@@ -360,7 +360,7 @@ where
         rt,
         |scope|
             requires { T.is_ready server.now }
-        { open_all(scope, rt, server, listener, most, gates) },
+        { open_all(scope, rt, server, listener, most, pauses) },
     );
 }
 
@@ -371,30 +371,30 @@ fn open_all<'s, E, H, T, G>(
     server: &'s T,
     listener: &TcpListener,
     most: u64,
-    gates: &G,
+    pauses: &G,
 )
 where
     H: Wait + Clock + Log,
     T: Host + Sync,
-    G: Gates,
-    G::Gate: 's,
+    G: Pauses,
+    G::Pause: 's,
     requires { T.is_ready server.now }
 {
     for index in 0..most {
         let number = index + 1;
         let stream = next_of(rt, listener);
-        open(scope, rt, server, stream, number, gates.gate(number));
+        open(scope, rt, server, stream, number, pauses.pause(number));
     }
 }
 
 /// Opens a connection: its worker gets a thread. Where none can be made, it is closed.
-fn open<'s, E, H: Log, T: Host + Sync, G: Gate + Send + Drop + 's>(
+fn open<'s, E, H: Log, T: Host + Sync, G: Pause + Send + Drop + 's>(
     scope: &Scope<'s, E>,
     rt: &H,
     server: &'s T,
     stream: TcpStream,
     number: u64,
-    gate: G,
+    pause: G,
 )
     requires { T.is_ready server.now }
 {
@@ -404,7 +404,7 @@ fn open<'s, E, H: Log, T: Host + Sync, G: Gate + Send + Drop + 's>(
         .spawn(
             move ||
                 requires { T.is_ready server.now }
-            { server.work_on(stream, number, gate) },
+            { server.work_on(stream, number, pause) },
         )
         .is_err()
     {

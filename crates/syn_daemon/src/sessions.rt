@@ -9,7 +9,7 @@ ghost use Rattle.syn_refusal.specs.Refusals.{cause_of};
 ghost use Rattle.syn_coordinator.specs.Coordinators.{Stands, device_of, runs};
 ghost use Rattle.syn_sync.specs.Refusals.{Refuses};
 
-use crate::gates::Gates;
+use crate::pauses::Pauses;
 use crate::server::serve;
 use crate::streams::{Streams, reach};
 use log::{Log, warn};
@@ -93,8 +93,8 @@ pub fn run<H, D, C, G, K, V>(
     left: &SharedReplica<D>,
     right: &SharedReplica<D>,
     coordinator: Coordinator<C>,
-    left_gates: &G,
-    right_gates: &K,
+    left_pauses: &G,
+    right_pauses: &K,
     preference: Option<Side>,
     watch: &mut V,
 ) -> (Coordinator<C>, Result<(), Refusal>)
@@ -102,8 +102,8 @@ where
     H: Net<Listener = TcpListener, Stream = TcpStream> + Threads + Wait + Clock + Log + Sync,
     D: Disk + Send,
     C: Disk + Drop,
-    G: Gates + Sync,
-    K: Gates + Sync,
+    G: Pauses + Sync,
+    K: Pauses + Sync,
     V: SessionWatch,
     ensures drives { (pair : ℕ) (machine : CoordinatorMachine) → Stands coordinator pair machine
         → DrivesSession (option_map which_of preference) result.0 pair machine result.1 }
@@ -124,8 +124,8 @@ where
         move |scope| -> (Coordinator<C>, Result<(), Refusal>)
             ensures { RunsSession (option_map which_of preference) coordinator result.0 result.1 }
         {
-            let started = start(scope, rt, alloc, left, left_port, left_gates)
-                && start(scope, rt, alloc, right, right_port, right_gates);
+            let started = start(scope, rt, alloc, left, left_port, left_pauses)
+                && start(scope, rt, alloc, right, right_port, right_pauses);
             drive_started(
                 alloc,
                 coordinator,
@@ -146,15 +146,15 @@ fn start<'s, E, H, D, G>(
     alloc: Global,
     shared: &'s SharedReplica<D>,
     listener: TcpListener,
-    gates: &'s G,
+    pauses: &'s G,
 ) -> bool
 where
     H: Threads + Wait + Clock + Log + Sync,
     D: Disk + Send,
-    G: Gates + Sync,
+    G: Pauses + Sync,
 {
     scope
-        .spawn(move || serve_one(rt, alloc, shared, listener, gates))
+        .spawn(move || serve_one(rt, alloc, shared, listener, pauses))
         .is_ok()
 }
 
@@ -165,14 +165,14 @@ fn serve_one<H, D, G>(
     alloc: Global,
     shared: &SharedReplica<D>,
     listener: TcpListener,
-    gates: &G,
+    pauses: &G,
 )
 where
     H: Threads + Wait + Clock + Log + Sync,
     D: Disk + Send,
-    G: Gates + Sync,
+    G: Pauses + Sync,
 {
-    if let Err(why) = serve(rt, alloc, shared, &listener, Some(1), gates) {
+    if let Err(why) = serve(rt, alloc, shared, &listener, Some(1), pauses) {
         warn!(rt; "server refused {} {why}", why.number());
     }
 }

@@ -15,7 +15,7 @@ use std::time::Clock;
 use syn_disk::Disk;
 use syn_lock::{LockError, Naming, PassPool};
 use syn_replica::Replica;
-use syn_serve::Gate;
+use syn_serve::Pause;
 use syn_shared::{SharedReplica, fill};
 
 /// A state `S` under a lock, that a server's threads share.
@@ -35,11 +35,11 @@ pub(crate) trait Shares<S>: Sized {
         ensures { IfErr result (λ e. (e ≡ lock.NoSeat) ⊎ (e ≡ lock.Memory)) };
 
     /// The work of a connection's thread.
-    fn work_on<H: Wait + Log, L: Naming<S>, G: Gate + Drop>(
+    fn work_on<H: Wait + Log, L: Naming<S>, G: Pause + Drop>(
         service: &Service<'_, H, Self, PassPool<S, L>>,
         stream: TcpStream,
         number: u64,
-        gate: G,
+        pause: G,
     )
         requires { (lock_in service.now.shared.now ≡ L.lock)
             × (origin_in service.now.shared.now ≡ L.origin) };
@@ -69,13 +69,13 @@ impl<D: Disk> Shares<Replica<D>> for SharedReplica<D> {
         fill::<D, L>(alloc, self, workers)
     }
 
-    fn work_on<H: Wait + Log, L: Naming<Replica<D>>, G: Gate + Drop>(
+    fn work_on<H: Wait + Log, L: Naming<Replica<D>>, G: Pause + Drop>(
         service: &Service<'_, H, SharedReplica<D>, PassPool<Replica<D>, L>>,
         stream: TcpStream,
         number: u64,
-        gate: G,
+        pause: G,
     ) {
-        worker::work_on(service, stream, number, gate);
+        worker::work_on(service, stream, number, pause);
     }
 
     fn run_checkpointer<H: Wait + Clock + Log, L: Naming<Replica<D>>>(

@@ -4,7 +4,7 @@ ghost use Rattle.syn_daemon.specs.inner.Connections.{WasServedWhole};
 ghost use Rattle.syn_lock.specs.Locks.{IsLock};
 ghost use Rattle.syn_shared.specs.Shared.{own_of};
 
-use crate::gates::Ringing;
+use crate::pauses::Ringing;
 use crate::server::Server;
 use log::{Log, info};
 use std::io::{Read, Write};
@@ -13,7 +13,7 @@ use std::sync::Wait;
 use syn_disk::Disk;
 use syn_lock::{NamedPass, Naming};
 use syn_replica::Replica;
-use syn_serve::{Gate, ServeError, ServerConnection, Serving};
+use syn_serve::{Pause, ServeError, ServerConnection, Serving};
 use syn_shared::serve;
 
 /// Serves the connection to its end, where a pass is left, and closes it. The pass is back before
@@ -22,17 +22,17 @@ pub(crate) fn work_on<H, D, L, G>(
     server: &Server<'_, H, D, L>,
     stream: TcpStream,
     number: u64,
-    gate: G,
+    pause: G,
 )
 where
     H: Wait + Log,
     D: Disk,
     L: Naming<Replica<D>>,
-    G: Gate + Drop,
+    G: Pause + Drop,
     requires { IsLock L.lock L.origin (own_of server.now.shared.now) }
 {
     let drawn = server.pool.draw(server.rt);
-    let _ended = serve_over(server, drawn, &stream, &stream, gate);
+    let _ended = serve_over(server, drawn, &stream, &stream, pause);
     drop(stream);
     info!(server.rt; "connection {number} closed");
 }
@@ -44,7 +44,7 @@ fn serve_over<H, D, L, R, W, G>(
     drawn: Option<NamedPass<Replica<D>, L>>,
     reader: R,
     writer: W,
-    gate: G,
+    pause: G,
 ) -> Option<Result<(), ServeError>>
 where
     H: Wait,
@@ -52,14 +52,14 @@ where
     L: Naming<Replica<D>>,
     R: Read + Drop,
     W: Write + Drop,
-    G: Gate + Drop,
+    G: Pause + Drop,
     requires { IsLock L.lock L.origin (own_of server.now.shared.now) }
     ensures { MatchOption drawn (result ≡ None) (λ _. IsSomeAnd result
         (WasServedWhole D D.Disk (R.remaining reader) (W.contents writer))) }
 {
-    let gate = Ringing::new(server.rt, &server.bell, gate);
+    let pause = Ringing::new(server.rt, &server.bell, pause);
     let connection = ServerConnection::new(server.alloc, reader, writer);
-    let mut serving = Serving::new(server.alloc, connection, gate);
+    let mut serving = Serving::new(server.alloc, connection, pause);
     // Where no memory is left for the pass to go back, it is lost, and the work was done.
     let _ = serve(server.rt, server.shared, &server.pool, drawn, &mut serving);
     serving.ended()

@@ -21,7 +21,7 @@ use syn_path::Path;
 use syn_tree::Tree;
 use syn_user::UserConnection;
 
-/// Writes what the directory at the line's path has into its folder, and answers the position of
+/// Writes what the directory at the command's path has into its folder, and answers the position of
 /// the replica.
 ///
 /// A text that names no path is refused. Else it is refused 5 where no directory is at the path, as
@@ -54,7 +54,7 @@ where
     }
 }
 
-/// Makes what is at the line's path what stands in its folder, by edits of its user, and answers
+/// Makes what is at the command's path what stands in its folder, by edits of its user, and answers
 /// the new position. The edits are told, and what is skipped.
 ///
 /// A text that names no path is refused. Else it is refused as the folder is read, as an opening
@@ -94,7 +94,7 @@ pub fn import<H: Net<Stream = TcpStream>, N: NamedDisks, F: Files, E: Write>(
     }
 }
 
-/// The path that a line names: the root where it names none.
+/// The path that a command names: the root where it names none.
 ///
 /// A text that names no path is refused.
 fn path_of(alloc: Global, text: Option<&str>) -> Result<Path, CommandError>
@@ -129,7 +129,7 @@ fn import_over<F: Folder, E: Write>(
     send_edits(alloc, &mut connection, asked.user, position, edits, teller)
 }
 
-/// Writes what the directory at the path of the tree has into the line's folder.
+/// Writes what the directory at the path of the tree has into the command's folder.
 fn export_into<H: Threads + Sync, F: Files>(
     rt: &H,
     alloc: Global,

@@ -1,4 +1,4 @@
-//! What a line does with an image of a name, or with a replica that is served.
+//! What a command does with an image of a name, or with a replica that is served.
 ghost use Rattle.std.specs.Prelude.{IsErrAnd};
 ghost use Rattle.syn_path.specs.Paths.{NamesPath};
 ghost use Rattle.syn_model.specs.Path.{Path as ModelPath};
@@ -81,8 +81,8 @@ pub fn print_log<N: NamedDisks, O: Write>(
     Ok(show_log(alloc, &logged, most, output)?)
 }
 
-/// Makes the edit where the line says, and answers the new position. A text that names no path is
-/// refused, whatever the disk or the server is.
+/// Makes the edit where the command says, and answers the new position. A text that names no path
+/// is refused, whatever the disk or the server is.
 ///
 /// Else it is refused as an opening and as the replica or the server refuses it, 9 where the input
 /// cannot be read, and 11 where memory is refused.

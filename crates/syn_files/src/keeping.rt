@@ -22,11 +22,11 @@ use syn_session::{End, Report, SettledItems};
 use syn_sync::{SessionWatch, tell_unreached};
 use syn_user::SideConnection;
 
-/// Runs a session of the line's servers, and another one each time that a side has changed since.
-/// It looks every so many seconds, at least one, and an idle pair is written nothing. A report is
-/// printed where something was done, or where other items are refused or in conflict than after the
-/// session before; also where memory was refused to keep which those were. A side that cannot be
-/// reached is told once, and tried again.
+/// Runs a session of the command's servers, and another one each time that a side has changed
+/// since. It looks every so many seconds, at least one, and an idle pair is written nothing. A
+/// report is printed where something was done, or where other items are refused or in conflict than
+/// after the session before; also where memory was refused to keep which those were. A side that
+/// cannot be reached is told once, and tried again.
 ///
 /// It goes on as long as the process. Refused as an opening of the archive is, 9 where its device
 /// fails or the output cannot be written, and as `sync` is.

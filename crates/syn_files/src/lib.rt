@@ -1,4 +1,4 @@
-//! What a line does with images that have names, and with replicas that are served.
+//! What a command does with images that have names, and with replicas that are served.
 //!
 //! An image lies on a disk that is opened by its name. What such a disk is, `NamedDisks` leaves
 //! open: the program's are files of the system. An image is shown, checked, edited and migrated. A
@@ -14,7 +14,7 @@
 //!   is held once the disk is read (`LockedDisk` of `syn_disk`: `held`). Nothing else is asked of
 //!   the disk but that it is one, so all here holds of any disks that have names.
 //! - All other calls put together what the crates below promise, and have no clause of their own.
-//!   That they do what the line asks, of the disk that it names, is shown by tests alone.
+//!   That they do what the command asks, of the disk that it names, is shown by tests alone.
 #![tactic(auto)]
 
 mod folders;

@@ -13,7 +13,7 @@ use std::thread::Threads;
 use std::time::Clock;
 use syn_cli::{EditCommand, ServeCommand};
 use syn_command::{CommandError, read_edit, show_path};
-use syn_daemon::{FolderSide, OpenGates, Plain, reach, serve, serve_beside};
+use syn_daemon::{FolderSide, NoPauses, Plain, reach, serve, serve_beside};
 use syn_disk::Disk;
 use syn_path::Path;
 use syn_print::show_served;
@@ -22,8 +22,8 @@ use syn_shared::SharedReplica;
 use syn_tree::{Content, Edit, Tree};
 use syn_user::{SideConnection, UserConnection};
 
-/// Serves the line's replica at its address, `HOST:PORT`, until so many connections were opened and
-/// served; with none it serves on. Where the line has a folder, that is kept the same as the
+/// Serves the command's replica at its address, `HOST:PORT`, until so many connections were opened
+/// and served; with none it serves on. Where the command has a folder, that is kept the same as the
 /// replica meanwhile. It logs to the handle's standard error.
 ///
 /// Refused as an opening of the disk is, and of the archive that a folder has; 9 where the address
@@ -76,7 +76,7 @@ where
     let listener = TcpListener::bind(rt, command.address)?;
     let logged = Logged::new(*rt, LevelFilter::Info, Plain(*rt));
     let most = command.connections;
-    serve(&logged, alloc, shared, &listener, most, &OpenGates)?;
+    serve(&logged, alloc, shared, &listener, most, &NoPauses)?;
     Ok(())
 }
 
@@ -100,11 +100,11 @@ where
     let listener = TcpListener::bind(rt, command.address)?;
     let logged = Logged::new(*rt, LevelFilter::Info, Plain(*rt));
     let most = command.connections;
-    serve_beside(&logged, alloc, shared, &listener, most, &OpenGates, side)?;
+    serve_beside(&logged, alloc, shared, &listener, most, &NoPauses, side)?;
     Ok(())
 }
 
-/// Asks the server at the address for the line's edit, and answers the new position.
+/// Asks the server at the address for the command's edit, and answers the new position.
 ///
 /// Refused as the server refuses it, and 9 where the address cannot be reached. Refused 9 also
 /// where the connection ends before the answer, or none comes in a minute: then the edit may have

@@ -16,9 +16,9 @@ use syn_reconcile::{
 };
 use syn_replica::Replica;
 
-/// Makes the line's folder and its replica the same, by what both last agreed on, prints a report,
-/// and answers what it came to. What no replica can have is told, and left alone on both sides;
-/// each item that is carried or marked is told, too, and how many are settled.
+/// Makes the command's folder and its replica the same, by what both last agreed on, prints a
+/// report, and answers what it came to. What no replica can have is told, and left alone on both
+/// sides; each item that is carried or marked is told, too, and how many are settled.
 ///
 /// Refused as the replica and the archive are opened, 9 and 13 as the folder is read, and as
 /// `reconcile` is: what was carried before stands then, and the same line goes on.
@@ -104,7 +104,7 @@ pub fn plan_named<N: NamedDisks, F: Files, O: Write, E: Write>(
     }
 }
 
-/// A folder and a replica whose plan a line asks for.
+/// A folder and a replica whose plan a command asks for.
 #[derive(Drop)]
 struct PlanOfFolder<'a, F, R: Disk> {
     folder: &'a F,

@@ -15,7 +15,7 @@ use syn_archive::Archive;
 use syn_cli::{Between, Pairing};
 use syn_command::{CommandError, Outcome, SessionProgress, Teller, outcome_of};
 use syn_coordinator::Coordinator;
-use syn_daemon::{OpenGates, run, sync};
+use syn_daemon::{NoPauses, run, sync};
 use syn_disk::{Access, Disk};
 use syn_path::Side;
 use syn_print::show_report;
@@ -164,7 +164,7 @@ where
         archive: Archive<D>,
     ) -> Result<Outcome, CommandError> {
         let quiet = Logged::new(*self.rt, LevelFilter::Off, Discard);
-        let gates = OpenGates;
+        let pauses = NoPauses;
         let coordinator = Coordinator::new(self.alloc, archive);
         let (mut coordinator, went) = run(
             &quiet,
@@ -172,8 +172,8 @@ where
             left,
             right,
             coordinator,
-            &gates,
-            &gates,
+            &pauses,
+            &pauses,
             self.preference,
             self.watch,
         );

@@ -16,8 +16,8 @@ module _ {R W G : Type 0} where
   abbrev pub connection_in : Serving R W G → ServerConnection R W
   connection_in serving = serving.connection
 
-  abbrev pub gate_in : Serving R W G → G
-  gate_in serving = serving.gate
+  abbrev pub pause_in : Serving R W G → G
+  pause_in serving = serving.pause
 
   abbrev pub ended_in : Serving R W G → Option (Result Unit ServeError)
   ended_in serving = serving.ended

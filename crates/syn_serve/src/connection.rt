@@ -12,8 +12,8 @@ ghost use Rattle.syn_shared.specs.Shared.{IsFor, IsLater};
 
 use crate::answering::answer;
 use crate::error::ServeError;
-use crate::gate::{Gate, Point};
 use crate::message::{AnyReply, AnyRequest, decode_any_request, encode_any_reply};
+use crate::pause::{Pause, Point};
 use std::alloc::Global;
 use std::io::{Read, Write};
 use std::sync::Wait;
@@ -62,18 +62,18 @@ impl<R: Read, W: Write> ServerConnection<R, W> {
     }
 
     /// Reads one request, answers it from the shared replica within one hold of its lock, and
-    /// writes the reply. The gate is passed before the hold and after it.
+    /// writes the reply. The pause is told before the hold and after it.
     ///
     /// Refused 21 and 22 where a frame with such a length comes, and 23 where a body comes that is
     /// no message: it is answered nothing. Refused 9 where a read or the write fails, and 11 where
     /// memory is refused. After any refusal the connection is to be closed.
-    pub fn serve_next<H: Wait, D: Disk, G: Gate>(
+    pub fn serve_next<H: Wait, D: Disk, G: Pause>(
         &mut self,
         rt: &H,
         alloc: Global,
         shared: &SharedReplica<D>,
         pass: &mut Pass<Replica<D>>,
-        gate: &mut G,
+        pause: &mut G,
     ) -> Result<Exchanged, ServeError>
         requires { IsFor shared.now pass.old }
         ensures of { IsFor shared.now pass.new }
@@ -86,9 +86,9 @@ impl<R: Read, W: Write> ServerConnection<R, W> {
             return Ok(Exchanged::Ended);
         };
         let kind = request.kind();
-        gate.reach(Point::Before(kind));
+        pause.at(Point::Before(kind));
         let reply = answer(rt, alloc, shared, pass, &mut self.agent, request);
-        gate.reach(Point::After(kind));
+        pause.at(Point::After(kind));
         self.send(alloc, &reply)?;
         Ok(Exchanged::Answered)
     }
@@ -97,13 +97,13 @@ impl<R: Read, W: Write> ServerConnection<R, W> {
     ///
     /// Refused as `serve_next` is, by the first exchange that is refused: nothing is read after
     /// it, and the connection is to be closed.
-    pub fn serve<H: Wait, D: Disk, G: Gate>(
+    pub fn serve<H: Wait, D: Disk, G: Pause>(
         &mut self,
         rt: &H,
         alloc: Global,
         shared: &SharedReplica<D>,
         pass: &mut Pass<Replica<D>>,
-        gate: &mut G,
+        pause: &mut G,
     ) -> Result<(), ServeError>
         requires { IsFor shared.now pass.old }
         ensures of { IsFor shared.now pass.new }
@@ -113,7 +113,7 @@ impl<R: Read, W: Write> ServerConnection<R, W> {
         ensures later { IsLater shared.now pass.old pass.new }
     {
         for _ in rt.forever() {
-            if let Exchanged::Ended = self.serve_next(rt, alloc, shared, pass, gate)? {
+            if let Exchanged::Ended = self.serve_next(rt, alloc, shared, pass, pause)? {
                 return Ok(());
             }
         }

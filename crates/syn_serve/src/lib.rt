@@ -32,7 +32,7 @@
 //! - `serve` is any number of exchanges that answered, and the one that did not (`serves`:
 //!   `Serves`). Nothing is read after a refusal.
 //! - What the pass saw last is grown further by each of these calls (`later`).
-//! - A `Gate` is passed before each hold and after it, outside the lock, with the request's kind.
+//! - A `Pause` is told before each hold and after it, outside the lock, with the request's kind.
 //!   No clause speaks of it.
 //! - `Serving` is the `Work` of one worker. With its pass it serves its connection to the end, and
 //!   keeps how that ended (`does`: `WasServed`).
@@ -41,12 +41,12 @@
 mod answering;
 mod connection;
 mod error;
-mod gate;
 mod message;
+mod pause;
 mod serving;
 
 pub use connection::{Exchanged, ServerConnection};
 pub use error::ServeError;
-pub use gate::{Gate, Point};
 pub use message::{AnyReply, AnyRequest, decode_any_request, encode_any_reply};
+pub use pause::{Pause, Point};
 pub use serving::Serving;

@@ -1,10 +1,10 @@
 //! A connection as the work of one worker thread.
 ghost use Rattle.std.specs.Prelude.{◌≡◌, None};
-ghost use Rattle.syn_serve.specs.Servings.{connection_in, ended_in, gate_in};
+ghost use Rattle.syn_serve.specs.Servings.{connection_in, ended_in, pause_in};
 
 use crate::connection::ServerConnection;
 use crate::error::ServeError;
-use crate::gate::Gate;
+use crate::pause::Pause;
 use std::alloc::Global;
 use std::io::{Read, Write};
 use std::sync::Wait;
@@ -18,21 +18,21 @@ use syn_shared::{SharedReplica, Work};
 pub struct Serving<R, W, G> {
     alloc: Global,
     connection: ServerConnection<R, W>,
-    gate: G,
+    pause: G,
     ended: Option<Result<(), ServeError>>,
 }
 
 impl<R, W, G> Serving<R, W, G> {
     /// The connection was not served yet.
-    pub fn new(alloc: Global, connection: ServerConnection<R, W>, gate: G) -> Serving<R, W, G>
+    pub fn new(alloc: Global, connection: ServerConnection<R, W>, pause: G) -> Serving<R, W, G>
         ensures connection { connection_in result ≡ connection }
-        ensures gate { gate_in result ≡ gate }
+        ensures pause { pause_in result ≡ pause }
         ensures ended { ended_in result ≡ None }
     {
         Serving {
             alloc,
             connection,
-            gate,
+            pause,
             ended: None,
         }
     }
@@ -44,15 +44,15 @@ impl<R, W, G> Serving<R, W, G> {
         self.ended
     }
 
-    /// The connection and the gate.
+    /// The connection and the pause.
     pub fn into_parts(self) -> (ServerConnection<R, W>, G)
-        ensures { result ≡ (connection_in self, gate_in self) }
+        ensures { result ≡ (connection_in self, pause_in self) }
     {
-        (self.connection, self.gate)
+        (self.connection, self.pause)
     }
 }
 
-impl<D: Disk, R: Read, W: Write, G: Gate> Work<D> for Serving<R, W, G> {
+impl<D: Disk, R: Read, W: Write, G: Pause> Work<D> for Serving<R, W, G> {
     ghost use Rattle.syn_serve.specs.States.{state_of};
     ghost use Rattle.syn_serve.specs.Servings.{WasServed, connection_in, ended_in};
 
@@ -64,7 +64,7 @@ impl<D: Disk, R: Read, W: Write, G: Gate> Work<D> for Serving<R, W, G> {
     fn work<H: Wait>(&mut self, rt: &H, shared: &SharedReplica<D>, pass: &mut Pass<Replica<D>>) {
         let ended = self
             .connection
-            .serve(rt, self.alloc, shared, pass, &mut self.gate);
+            .serve(rt, self.alloc, shared, pass, &mut self.pause);
         self.ended = Some(ended);
     }
 }

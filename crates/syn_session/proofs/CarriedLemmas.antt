@@ -32,7 +32,7 @@ use Rattle.syn_session.specs.Stages.{AreAskedBefore, Carries, IsAskedBefore, IsC
 use Rattle.syn_session.specs.Stages.{IsCarriedFor, Reached, plan_in}
 use Rattle.syn_session.proofs.CarryingLemmas.{marks_of, source_other, asked_then, is_carried}
 use Rattle.syn_session.proofs.CarryingLemmas.{carries_on, carrying_more}
-use Rattle.syn_session.proofs.CourseLemmas.{no_conflict}
+use Rattle.syn_session.proofs.ProgressLemmas.{no_conflict}
 use Rattle.syn_image.specs.Archives.{kept_for}
 
 -- ---- a request for what is carried is one for the item
@@ -105,7 +105,7 @@ module _ (archive : kept_in.Archive) (progress : PlanProgress) (left right : Fou
         right
         (all ++ taken ∷ []) before carries.planned
     carried_out now = record {
-      course_is = carrying_more progress now left right before carries.course_is;
+      progress_is = carrying_more progress now left right before carries.progress_is;
       at = carries.at;
       carries = is_carried carries.planned (spec_of was.transfer) progress.cursor for_it.spec;
       apart = no_conflict carries.planned carries.planned.item (kept_for was.item_record)
@@ -120,7 +120,7 @@ module _ (archive : kept_in.Archive) (progress : PlanProgress) (left right : Fou
         Carries archive (record progress { carrying = Some later }) left right
         (all ++ taken ∷ []) before (λ transfer. AsksFor transfer (all ++ taken ∷ []) asked)
     still_carries later same_carriage same_record asked asks_it =
-        carries_on archive progress left right before carries.course_is carries.planned carries.at
+        carries_on archive progress left right before carries.progress_is carries.planned carries.at
         was later same_carriage same_record for_it (all ++ taken ∷ []) asked_all
         (λ transfer. AsksFor transfer (all ++ taken ∷ []) asked) asks_it
 

@@ -107,7 +107,7 @@ pub carries_on : (archive : model.Archive) (progress : PlanProgress) (left right
 carries_on archive progress left right reached is planned at carrying later same_carriage
     same_record carries all asked Is asks =
     record {
-      course_is = carrying_more progress (Some later) left right reached is;
+      progress_is = carrying_more progress (Some later) left right reached is;
       carrying = later;
       is_carried = refl;
       planned = planned;

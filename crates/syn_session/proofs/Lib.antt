@@ -8,7 +8,7 @@ pub mod HearLemmas
 pub mod TellingLemmas
 pub mod HeardNext
 pub mod HearingLemmas
-pub mod CourseLemmas
+pub mod ProgressLemmas
 pub mod DoingLemmas
 pub mod CarryingLemmas
 pub mod CarriedLemmas

@@ -16,7 +16,7 @@ use Rattle.syn_session.specs.declared.session.Asks.TheVariants.{Listings, One}
 use Rattle.syn_session.specs.declared.session.Session.{Session}
 use Rattle.syn_path.specs.Sides.{which_of}
 
--- this request waited on the line of the side, and waits no more; all else stays
+-- this request waited on the side, and waits no more; all else stays
 pub record IsAnswering (old new : Session) (side : Which) (number : ℕ) (request : Request)
     : Type 0 where
   pub asked : asked_in (waiting_of (peer_of old side)) number ≡ Some request

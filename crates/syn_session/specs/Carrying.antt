@@ -17,7 +17,7 @@ use Rattle.syn_session.specs.declared.session.Asks.TheVariants.{Listings, One}
 -- the item at the cursor is carried no further, and no request is out for a later one
 pub record IsCarriedOut (progress : PlanProgress) (left right : Found) (all : List Exchange)
     (before : Reached) (planned : Planned) : Type 0 where
-  pub course_is : IsPlanProgress progress left right before
+  pub progress_is : IsPlanProgress progress left right before
   pub at : slice_get (plan_in progress left right) progress.cursor ≡ Some planned
   pub carries : is_carrying planned.item ≡ true
   pub apart : conflict_at planned.item ≡ None

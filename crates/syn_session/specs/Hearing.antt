@@ -24,7 +24,7 @@ abbrev pub IsFresh : Running → Which → Request → Type 0
 IsFresh heard side request = (n : ℕ) (before : Request) → WasAsked heard side n before
     → IsRepeat before request → ⊥
 
--- it asks for this on both lines
+-- it asks both sides for this
 pub record IsAsking (old new : Session) (asks : Asks) : Type 0 where
   pub peer : (side : Which) → IsAskedOn old.number (peer_of old side) (peer_of new side)
       (asks_of asks side)

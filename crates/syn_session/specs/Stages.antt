@@ -177,7 +177,7 @@ pub record IsCarriedFor (archive : model.Archive) (carrying : Carrying) (planned
 -- the item at the cursor is carried, by a transfer of which this holds
 pub record Carries (archive : model.Archive) (progress : PlanProgress) (left right : Found)
     (taken : List Exchange) (reached : Reached) (Is : Transfer → Type 0) : Type 0 where
-  pub course_is : IsPlanProgress progress left right reached
+  pub progress_is : IsPlanProgress progress left right reached
   pub carrying : Carrying
   pub is_carried : progress.carrying ≡ Some carrying
   pub planned : Planned

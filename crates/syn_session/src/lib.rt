@@ -4,11 +4,11 @@
 //! # What it promises
 //!
 //! `IsSession archive session running`: it is the running session of a machine that has this
-//! archive. What waits on its two lines is the same, and so are its scans, or its way through its
+//! archive. What waits on both sides is the same, and so are its scans, or its way through its
 //! plan.
 //!
 //! - `Session::new` has both sides begin the session (`begun`, `sends`). `waiting` is what waits on
-//!   both lines, left first and in rising number, and `count_resend` counts that each is sent
+//!   both sides, left first and in rising number, and `count_resend` counts that each is sent
 //!   again. `is_worn` says whether one may be sent again no more. `waits_on` says whether a request
 //!   waits on a side.
 //! - What waits on a side may wait there, its numbers rise, and all of it is of this session

@@ -111,7 +111,7 @@ impl PlanProgress {
         self.cursor = one_more(self.cursor);
     }
 
-    /// Past an item that both sides agreed on, and whose record is kept.
+    /// Counts the current item, whose record is kept, as marked, and moves to the next.
     pub(crate) fn pass_marked(&mut self)
         ensures passes { (left right : Found) (reached : Reached) (planned : Planned) (what : Kept)
             → IsPlanProgress self.old left right reached

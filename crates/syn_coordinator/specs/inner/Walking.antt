@@ -56,7 +56,7 @@ pub record Comes {D : Type 0} {disk : Ghosts D} (new : Archive D disk) (pair : â
   pub after : Reached
   pub passes : Passes pair taken old before journal after kept
   pub is : IsMachine new pair journal
-  pub course_is : IsPlanProgress progress left right after
+  pub progress_is : IsPlanProgress progress left right after
 
 -- The session ends so; or the machine is down. It remembers what could not be kept
 pub data Ends {D : Type 0} {disk : Ghosts D} (new : Archive D disk) (tried : Option TriedRecord)
@@ -79,7 +79,7 @@ pub data Ends {D : Type 0} {disk : Ghosts D} (new : Archive D disk) (tried : Opt
 -- no request is out for the item that it has come to, or for a later one
 pub record IsAtItem (progress : PlanProgress) (left right : Found) (taken : List Exchange)
     (reached : Reached) : Type 0 where
-  pub course_is : IsPlanProgress progress left right reached
+  pub progress_is : IsPlanProgress progress left right reached
   pub asked : AreAskedBefore (plan_in progress left right) progress.cursor taken
 
 -- it has come to an item that is carried, and asks a side for this

@@ -45,8 +45,8 @@ impl<D: Disk> Coordinator<D> {
         // An answer that ends no session leaves the last report.
         ensures report { (runs self.new ≡ true) ⊎ (runs self.old ≡ false)
             → report_shown self.new ≡ report_shown self.old }
-        // What `kept` tells to have been answered 9 was tried in it, and is what the machine's
-        // journal was writing (`tries` of `Stands`); it tells nothing where none was sent.
+        // The record that `kept` tells as in doubt was tried in it, and is what the machine's
+        // journal was writing (`tries` of `Stands`). None is told where none was sent.
         ensures breaks { TellsNone self.old self.new ⊎ BreaksOff self.old self.new }
         ensures halts { HaltsByFailure self.old self.new }
     {

@@ -38,7 +38,7 @@ pub record ListsNext (old new : PeerState) (paths : List Path) : Type 0 where
 abbrev pub is_silent : PeerState → List Path → Bool
 is_silent peer next = not (nat_lt 0 (length (waiting_of peer))) && nat_eq (length next) 0
 
--- the listings that are asked for next on both lines, and something waits then
+-- the listings that are asked for next on both sides, and something waits then
 pub record ListsOn (old new : Session) (asks : Asks) : Type 0 where
   pub paths : Which → List Path
   pub asked : (side : Which) → asks_of asks side ≡ map ListAt (paths side)

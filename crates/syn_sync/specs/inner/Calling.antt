@@ -29,7 +29,7 @@ abbrev pub Starting : {D : Type 0} → {disk : Ghosts D} → Option Which → Co
 Starting preference new pair machine messages =
     (calls : Calls new pair machine messages) × Begins preference calls.acts
 
--- the session does not end: the machine was stopped, or nothing ends it
+-- the session does not end: the machine was stopped, or no tick ends it
 abbrev pub IsUnended : {D : Type 0} → {disk : Ghosts D} → Coordinator D disk → Refusal → Type 0
 IsUnended {D} {disk} new refusal =
     ((cause_of refusal ≡ why.Device) × (is_stopped (disk.arms (device_of new)) ≡ true))

@@ -102,7 +102,7 @@ returns-in-Err-clause-step g c pair journal all before to number request is quie
     at_once c.refusal.result
     (ended_with _ c.in-Err.error c.refusal.result c.refusal.ensures
     (c.in-Err.ensures.goes_on all to request number c.args.reply refl waits)) refl is quiet
-    (carrying_more progress c.take.new.self left right before carries.course_is)
+    (carrying_more progress c.take.new.self left right before carries.progress_is)
 
 pub returns-in-Ok-Ask-clause-breaks : goal.returns-in-Ok-Ask-clause-breaks
 returns-in-Ok-Ask-clause-breaks g c = none_breaks c.args.self.now

@@ -17,9 +17,9 @@ returns-in-Nothing-clause-step g c pair journal taken all before is quiet at = (
   [],
   sym (append-nil _),
   ends_settled pair taken journal before c.args.left.now c.args.right.now c.args.self.now.archive
-      c.args.self.now.tried is quiet.0 quiet.1 c.args.progress.now at.course_is
+      c.args.self.now.tried is quiet.0 quiet.1 c.args.progress.now at.progress_is
       (subst (IsDoing c.args.progress.now c.args.left.now c.args.right.now) c.in-Nothing.is
-      (c.in_ok-doing.ensures.ok before at.course_is)),
+      (c.in_ok-doing.ensures.ok before at.progress_is)),
 )
 
 pub returns-in_ok-pass_conflict-in-Conflict-clause-step :
@@ -30,14 +30,15 @@ returns-in_ok-pass_conflict-in-Conflict-clause-step g c pair journal taken all b
     let right = c.args.right.now in
     let progress = c.args.progress.now in
     let doing = subst (IsDoing progress left right) c.in-Conflict.is
-    (c.in_ok-doing.ensures.ok before at.course_is) in
+    (c.in_ok-doing.ensures.ok before at.progress_is) in
     on_past pair taken journal before left right c.args.self.now c.args.self.now progress
     c.pass_conflict.new.self all at
     (past_here pair taken journal before left right c.args.self.now is quiet
     c.pass_conflict.new.self (past_at before) refl
     (passes_conflict pair taken journal before doing.0
-    (at_walk before progress left right at.course_is doing.0 doing.1) c.in-Conflict.path doing.2)
-    (c.in_ok-pass_conflict-in-Conflict.ensures.passes left right before doing.0 at.course_is doing.1
+    (at_walk before progress left right at.progress_is doing.0 doing.1) c.in-Conflict.path doing.2)
+    (c.in_ok-pass_conflict-in-Conflict.ensures.passes left right before doing.0 at.progress_is
+    doing.1
     doing.2))
 
 pub returns-in_err-pass_conflict-in-Conflict-clause-step :
@@ -50,7 +51,7 @@ returns-in_err-pass_conflict-in-Conflict-clause-step g c pair journal taken all 
     c.from_residual-in_err-pass_conflict-in-Conflict.ensures.1
     (ends_here pair taken journal before left right c.args.self.now is quiet
     c.pass_conflict.new.self c.pass_conflict.new.self
-    (c.in_err-pass_conflict-in-Conflict.ensures.stays left right before at.course_is) refl _ refl)
+    (c.in_err-pass_conflict-in-Conflict.ensures.stays left right before at.progress_is) refl _ refl)
 
 pub returns-in_ok-record_item-in-Mark-clause-step :
     goal.returns-in_ok-record_item-in-Mark-clause-step
@@ -59,11 +60,11 @@ returns-in_ok-record_item-in-Mark-clause-step g c pair journal taken all before 
     let right = c.args.right.now in
     let progress = c.args.progress.now in
     let doing = subst (IsDoing progress left right) c.in-Mark.is
-    (c.in_ok-doing.ensures.ok before at.course_is) in
+    (c.in_ok-doing.ensures.ok before at.progress_is) in
     on_past pair taken journal before left right c.args.self.now c.record_item.new.self progress
     c.record_item.new.progress all at
     (c.in_ok-record_item-in-Mark.ensures.step pair journal left right taken before doing.0 is quiet
-    at.course_is doing.1 (doing.3 taken))
+    at.progress_is doing.1 (doing.3 taken))
 
 pub returns-in_err-record_item-in-Mark-clause-step :
     goal.returns-in_err-record_item-in-Mark-clause-step
@@ -71,11 +72,11 @@ returns-in_err-record_item-in-Mark-clause-step g c pair journal taken all before
     let left = c.args.left.now in
     let right = c.args.right.now in
     let doing = subst (IsDoing c.args.progress.now left right) c.in-Mark.is
-    (c.in_ok-doing.ensures.ok before at.course_is) in
+    (c.in_ok-doing.ensures.ok before at.progress_is) in
     match_of_exit c.from_residual-in_err-record_item-in-Mark.result _ _ _
     c.from_residual-in_err-record_item-in-Mark.ensures.1
     (c.in_err-record_item-in-Mark.ensures.step pair journal left right taken before doing.0 is quiet
-    at.course_is doing.1 (doing.3 taken))
+    at.progress_is doing.1 (doing.3 taken))
 
 pub returns-in-Carry-clause-step : goal.returns-in-Carry-clause-step
 returns-in-Carry-clause-step g c pair journal taken all before is quiet at =
@@ -83,7 +84,7 @@ returns-in-Carry-clause-step g c pair journal taken all before is quiet at =
     let right = c.args.right.now in
     let progress = c.args.progress.now in
     let doing = subst (IsDoing progress left right) c.in-Carry.is
-    (c.in_ok-doing.ensures.ok before at.course_is) in
+    (c.in_ok-doing.ensures.ok before at.progress_is) in
     further_so (AsksSo c.args.self.now c.args.self.now pair taken journal before
     c.carry.new.progress
     left right all) (EndsSo c.args.self.now c.args.self.now pair taken journal before
@@ -97,7 +98,7 @@ pub returns-in_err-doing-clause-step : goal.returns-in_err-doing-clause-step
 returns-in_err-doing-clause-step g c pair journal taken all before is quiet at =
     match_of_memory c.from_residual.result _ _ c.from_residual.ensures.1
     (ends_here pair taken journal before c.args.left.now c.args.right.now c.args.self.now is quiet
-    c.args.progress.now c.args.progress.now at.course_is refl _ refl)
+    c.args.progress.now c.args.progress.now at.progress_is refl _ refl)
 
 pub returns-in-Nothing-clause-breaks : goal.returns-in-Nothing-clause-breaks
 returns-in-Nothing-clause-breaks g c = none_breaks c.args.self.now

@@ -9,7 +9,7 @@ returns-clause-step g c pair journal taken all before planned is quiet out is_du
     let right = c.args.right.now in
     let past = c.in_ok-record_item.ensures.step pair journal left right taken before planned is
     quiet
-    out.course_is out.at is_due in
+    out.progress_is out.at is_due in
     later_so pair taken journal before left right all c.args.self.now c.record_item.new.self
     c.args.progress.now c.record_item.new.progress planned out past c.walk.new.self
     c.walk.new.progress c.walk.result
@@ -24,7 +24,7 @@ returns-in_err-record_item-clause-step g c pair journal taken all before planned
     is_due =
     match_of_exit c.from_residual.result _ _ _ c.from_residual.ensures.1
     (c.in_err-record_item.ensures.step pair journal c.args.left.now c.args.right.now taken before
-    planned is quiet out.course_is out.at is_due)
+    planned is quiet out.progress_is out.at is_due)
 
 pub returns-clause-breaks : goal.returns-clause-breaks
 returns-clause-breaks g c = then_breaks c.args.self.now c.record_item.new.self

@@ -15,7 +15,7 @@ returns-clause-step g c pair journal taken all before planned is quiet out refus
     c.refuse.new.self (refused_at before (cause_of c.args.why) planned) refl
     (refused_so pair taken journal before left right all c.args.progress.now planned out
     (cause_of c.args.why) refused.0 refused.1)
-    (c.in_ok-refuse.ensures.passes left right before planned out.course_is out.at out.apart) in
+    (c.in_ok-refuse.ensures.passes left right before planned out.progress_is out.at out.apart) in
     later_so pair taken journal before left right all c.args.self.now c.args.self.now
     c.args.progress.now c.refuse.new.self planned out past c.walk.new.self c.walk.new.progress
     c.walk.result
@@ -30,7 +30,7 @@ returns-in_err-refuse-clause-step g c pair journal taken all before planned is q
     let right = c.args.right.now in
     match_of_memory c.from_residual.result _ _ c.from_residual.ensures.1
     (ends_here pair taken journal before left right c.args.self.now is quiet c.refuse.new.self
-    c.refuse.new.self (c.in_err-refuse.ensures.stays left right before out.course_is) refl _ refl)
+    c.refuse.new.self (c.in_err-refuse.ensures.stays left right before out.progress_is) refl _ refl)
 
 pub returns-in_err-refuse-clause-breaks : goal.returns-in_err-refuse-clause-breaks
 returns-in_err-refuse-clause-breaks g c =

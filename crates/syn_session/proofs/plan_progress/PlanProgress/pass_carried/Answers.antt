@@ -1,7 +1,8 @@
 use Rattle.std.proofs.Common.{not, refl, ap, ◌∙◌}
 use Rattle.syn_headline.specs.Report.{is_carrying, is_marking}
-use Rattle.syn_session.proofs.CourseLemmas.{record_is, count_fits, counts_none, counts_one}
-use Rattle.syn_session.proofs.CourseLemmas.{course_recorded, cursor_fits, marks_else, no_conflict}
+use Rattle.syn_session.proofs.ProgressLemmas.{record_is, count_fits, counts_none, counts_one}
+use Rattle.syn_session.proofs.ProgressLemmas.{progress_recorded, cursor_fits, marks_else}
+use Rattle.syn_session.proofs.ProgressLemmas.{no_conflict}
 use Rattle.syn_session.proofs.plan_progress.PlanProgress.pass_carried.Goals as goal
 
 pub returns : goal.returns
@@ -10,7 +11,7 @@ returns c = record {
       let of = record_is planned planned.item what due in
       let fits = count_fits c.args.self.now left right reached is planned at
       c.plan_laws.ensures.orderly what of is_carrying c.args.self.now.done is.done carries in
-      course_recorded c.args.self.now _ left right reached is planned at refl
+      progress_recorded c.args.self.now _ left right reached is planned at refl
       (c.one_more-self-2.ensures (cursor_fits c.args.self.now left right reached is planned at))
       c.plan_laws.ensures.orderly what of (no_conflict planned planned.item what due)
       (c.one_more-self.ensures fits

@@ -1,4 +1,4 @@
-//! What a worker passes on its way.
+//! Where a worker may be made to wait.
 
 /// Where a worker is with a request of this kind, the first byte of its body.
 #[derive(Clone, Copy, Debug, PartialEq, Eq)]
@@ -9,8 +9,9 @@ pub enum Point {
     After(u8),
 }
 
-/// What a worker passes before and after each answer, outside the lock. A test holds workers there.
-pub trait Gate {
-    /// The worker has reached the point. It goes on as this returns.
-    fn reach(&mut self, point: Point);
+/// Is told where a worker is, before and after each answer, outside the lock. A test has it wait
+/// there.
+pub trait Pause {
+    /// The worker is there, and goes on as this returns.
+    fn at(&mut self, point: Point);
 }

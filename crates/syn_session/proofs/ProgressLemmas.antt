@@ -62,13 +62,13 @@ module _ (old new : PlanProgress) (left right : Found) (reached : Reached)
   conflicts_are = ap₂ conflicts_to (sym next) same_plan
 
   -- its record is kept
-  pub course_recorded : PlanIsOrderly → (what : Kept) → is_record_of planned.item what ≡ true →
+  pub progress_recorded : PlanIsOrderly → (what : Kept) → is_record_of planned.item what ≡ true →
       conflict_at planned.item ≡ None →
       new.done ≡ old.done + (if is_carrying planned.item then 1 else 0) →
       new.marked ≡ old.marked + (if is_marking planned.item then 1 else 0) →
       new.conflicts ≡ old.conflicts → new.refused ≡ old.refused →
       IsPlanProgress new left right (kept_at reached what)
-  course_recorded orderly what of none done marked conflicts refused =
+  progress_recorded orderly what of none done marked conflicts refused =
       let once = named_once is.made.0 left right is.made.1 (items_of old.items.items) is.made.2
       orderly in
       record {
@@ -97,11 +97,11 @@ module _ (old new : PlanProgress) (left right : Found) (reached : Reached)
 
   module _ (done : new.done ≡ old.done) (marked : new.marked ≡ old.marked) where
     -- it is refused
-    pub course_refused : (why : Refusal) → conflict_at planned.item ≡ None →
+    pub progress_refused : (why : Refusal) → conflict_at planned.item ≡ None →
         new.conflicts ≡ old.conflicts →
         new.refused.items ≡ old.refused.items ++ (why, path_of planned.item) ∷ [] →
         IsPlanProgress new left right (refused_at reached (cause_of why) planned)
-    course_refused why none conflicts refused = record {
+    progress_refused why none conflicts refused = record {
       plan = plan_is;
       made = (is.made.0, is.made.1, ap (λ v. items_of v.items) items ∙ is.made.2);
       short = short_is;
@@ -121,10 +121,10 @@ module _ (old new : PlanProgress) (left right : Found) (reached : Reached)
     }
 
     -- it is a conflict
-    pub course_conflict : (path : Path) → planned.item ≡ Conflict path →
+    pub progress_conflict : (path : Path) → planned.item ≡ Conflict path →
         new.conflicts.items ≡ old.conflicts.items ++ path ∷ [] → new.refused ≡ old.refused →
         IsPlanProgress new left right (past_at reached)
-    course_conflict path conflict conflicts refused = record {
+    progress_conflict path conflict conflicts refused = record {
       plan = plan_is;
       made = (is.made.0, is.made.1, ap (λ v. items_of v.items) items ∙ is.made.2);
       short = short_is;
