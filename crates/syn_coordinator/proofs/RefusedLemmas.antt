@@ -222,10 +222,10 @@ module _ {D : Type 0} {disk : Ghosts D} (old new : Coordinator D disk) (pair : �
       goes Down never = absurd (never refl)
 
   stands_with : (status : Status) → status ≢ Down → (journal : Journal) → journal.status ≡ status →
-      IsMachine new.runner.archive pair journal → (is_some machine.running ≡ true →
+      IsMachine new.plan_runner.archive pair journal → (is_some machine.running ≡ true →
       (journal.value ≡ machine.journal.value) × (journal.writing ≡ None)) →
-      (is_some machine.running ≡ true → new.runner.tried ≡ None) →
-      Tries new.runner.tried journal →
+      (is_some machine.running ≡ true → new.plan_runner.tried ≡ None) →
+      Tries new.plan_runner.tried journal →
       Stands new pair (with_archive machine journal)
   stands_with status up journal is_status is keeps untried tries =
       let running = still_running status up journal is_status in record {
@@ -241,17 +241,17 @@ module _ {D : Type 0} {disk : Ghosts D} (old new : Coordinator D disk) (pair : �
       }
 
   -- nothing was tried at a machine that is up, and a checkpoint writes no record
-  tries_none_up : Runs old.runner.archive machine.journal →
-      new.runner.tried ≡ old.runner.tried → (journal : Journal) →
-      Compacts (archive_layout pair) machine.journal journal → Tries new.runner.tried journal
+  tries_none_up : Runs old.plan_runner.archive machine.journal →
+      new.plan_runner.tried ≡ old.plan_runner.tried → (journal : Journal) →
+      Compacts (archive_layout pair) machine.journal journal → Tries new.plan_runner.tried journal
   tries_none_up was same_tried journal compacts =
-      tries_none new.runner.tried journal
-      (same_tried ∙ untried_up old.runner.tried machine.journal stands.tries was.up)
+      tries_none new.plan_runner.tried journal
+      (same_tried ∙ untried_up old.plan_runner.tried machine.journal stands.tries was.up)
       ((compact_keeps pair machine.journal journal compacts).1 ∙ was.idle)
 
-  pub checkpoint_does : Runs old.runner.archive machine.journal →
-      new.runner.tried ≡ old.runner.tried →
-      (status : Status) → status ≢ Down → CompactsSo new.runner.archive pair machine.journal
+  pub checkpoint_does : Runs old.plan_runner.archive machine.journal →
+      new.plan_runner.tried ≡ old.plan_runner.tried →
+      (status : Status) → status ≢ Down → CompactsSo new.plan_runner.archive pair machine.journal
       status →
       Does old new pair (Checkpoints (coordinator_kind pair) machine) [] []
   checkpoint_does was same_tried status up (moves_on journal compacts is_status is) =
@@ -268,36 +268,37 @@ module _ {D : Type 0} {disk : Ghosts D} (old new : Coordinator D disk) (pair : �
 
   -- it forgets what was tried once it is opened again
   tries_again : (kept : List Kept) (journal : Journal) →
-      Reopened pair machine.journal journal kept → journal.status ≡ Up → new.runner.tried ≡ None →
-      Tries new.runner.tried journal
+      Reopened pair machine.journal journal kept → journal.status ≡ Up → new.plan_runner.tried ≡
+      None →
+      Tries new.plan_runner.tried journal
   tries_again kept journal again up forgets =
-      tries_none new.runner.tried journal forgets
+      tries_none new.plan_runner.tried journal forgets
       (opened_quiet pair machine.journal journal kept again up)
 
   tries_cut : (kept : List Kept) (journal : Journal) → Reopened pair machine.journal journal kept →
-      journal.status ≡ Down → new.runner.tried ≡ old.runner.tried →
-      Tries new.runner.tried journal
+      journal.status ≡ Down → new.plan_runner.tried ≡ old.plan_runner.tried →
+      Tries new.plan_runner.tried journal
   tries_cut kept journal again down same_tried =
       subst (λ t. Tries t journal) (sym same_tried)
-      (cut_tries pair old.runner.tried machine.journal journal kept again down stands.tries)
+      (cut_tries pair old.plan_runner.tried machine.journal journal kept again down stands.tries)
 
   tries_unopened : (met left : Status) → (machine.journal.status ≢ Up → left ≢ Up) →
       (journal : Journal) → NotReopened machine.journal met left journal →
-      new.runner.tried ≡ old.runner.tried →
-      Tries new.runner.tried journal
+      new.plan_runner.tried ≡ old.plan_runner.tried →
+      Tries new.plan_runner.tried journal
   tries_unopened met left stops journal not_opened same_tried =
-      subst (λ t. Tries t journal) (sym same_tried) (unopened_tries pair old.runner.tried
+      subst (λ t. Tries t journal) (sym same_tried) (unopened_tries pair old.plan_runner.tried
       machine.journal journal met left stops not_opened stands.tries)
 
   -- what it gave is what the archive shows
   gives : (found : Option Kept) (kept : List Kept) (journal : Journal) →
       Reopened pair machine.journal journal kept → journal.status ≡ Up →
-      IsMachine new.runner.archive pair journal → found ≡ found_in old.runner.tried
-      new.runner.archive →
+      IsMachine new.plan_runner.archive pair journal → found ≡ found_in old.plan_runner.tried
+      new.plan_runner.archive →
       kept ≡ listed found
   gives found kept journal (opened_again calls now some least opens) up is e =
-      let runs = runs_up new.runner.archive pair journal is up in
-      found_is new.runner.archive pair machine.journal old.runner.tried calls journal kept
+      let runs = runs_up new.plan_runner.archive pair journal is up in
+      found_is new.plan_runner.archive pair machine.journal old.plan_runner.tried calls journal kept
       stands.tries opens
       runs.room runs.generation ∙ ap listed (sym e)
   gives found kept journal (cut_off calls arms failures meets) up is e =
@@ -344,10 +345,11 @@ module _ {D : Type 0} {disk : Ghosts D} (old new : Coordinator D disk) (pair : �
       reopen_is_cut calls arms failures meets
 
   pub reopen_does : (found : Option Kept) → (is_stopped (disk.arms (device_of new)) ≡ false →
-      (new.runner.tried ≡ None) × (found ≡ found_in old.runner.tried new.runner.archive)) →
+      (new.plan_runner.tried ≡ None) × (found ≡ found_in old.plan_runner.tried
+      new.plan_runner.archive)) →
       (is_stopped (disk.arms (device_of new)) ≡ true →
-      (new.runner.tried ≡ old.runner.tried) × (found ≡ None)) →
-      Moves new.runner.archive pair
+      (new.plan_runner.tried ≡ old.plan_runner.tried) × (found ≡ None)) →
+      Moves new.plan_runner.archive pair
       (λ journal. (kept : List Kept) × Reopened pair machine.journal journal kept) Up →
       Does old new pair (λ next call. Reopens (coordinator_kind pair) machine next call [])
       (listed found) []
@@ -362,10 +364,10 @@ module _ {D : Type 0} {disk : Ghosts D} (old new : Coordinator D disk) (pair : �
       (gives_none found again.0 journal again.1 down (stays stopped).1)
       (tries_cut again.0 journal again.1 down (stays stopped).0)
 
-  pub not_reopened : new.runner.tried ≡ old.runner.tried →
+  pub not_reopened : new.plan_runner.tried ≡ old.plan_runner.tried →
       (met left : Status) (reason : Refusal) →
       left ≢ Down → (machine.journal.status ≢ Up → left ≢ Up) → IsRefusedSo met left reason →
-      Moves new.runner.archive pair (NotReopened machine.journal met left) left →
+      Moves new.plan_runner.archive pair (NotReopened machine.journal met left) left →
       Does old new pair (ReopensNot pair machine reason) [] []
   not_reopened same_tried met left reason up stops so
       (moves_on journal not_opened is_status is) =

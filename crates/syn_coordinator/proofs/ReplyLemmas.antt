@@ -69,7 +69,7 @@ module _ (pair : ℕ) (machine : CoordinatorMachine) (running : Running) (taken 
 
   module _ {D : Type 0} {disk : Ghosts D} (new : Coordinator D disk) (session next : Session)
       (kept : List Kept) (asks : Asks)
-      (on : TakesOn new.runner.archive pair machine.journal running taken session kept asks)
+      (on : TakesOn new.plan_runner.archive pair machine.journal running taken session kept asks)
       (quiet : machine.journal.writing ≡ None)
       (asked : (side : Which) →
       IsAskedOn session.number (peer_of session side) (peer_of next side) (asks_of asks side))
@@ -112,7 +112,8 @@ module _ (pair : ℕ) (machine : CoordinatorMachine) (running : Running) (taken 
         on.may.fresh on.now.value on.may.may on.may.some
 
     -- it asks both sides for what comes next
-    pub asked_so : new.runner.tried ≡ None → new.running ≡ Some next → (messages : List Message) →
+    pub asked_so : new.plan_runner.tried ≡ None → new.running ≡ Some next → (messages : List
+        Message) →
         messages ≡ messages_asked session asks →
         Answered new pair machine running taken kept messages
     asked_so untried runs_it messages sent =
@@ -130,7 +131,7 @@ module _ (pair : ℕ) (machine : CoordinatorMachine) (running : Running) (taken 
               (subst (λ r. IsSession on.now.value next (says r)) (sym same) is_session);
           quiet = λ _. on.quiet quiet;
           untried = λ _. untried;
-          tries = tries_none new.runner.tried on.now untried (on.quiet quiet);
+          tries = tries_none new.plan_runner.tried on.now untried (on.quiet quiet);
         }) refl
         (ap (λ r. sent_now r (asks_of asks Left) (asks_of asks Right)) same
         ∙ (sym (sends_that heard session next asks on.heard asked number preferred on.may.may_wait
@@ -147,8 +148,8 @@ module _ (pair : ℕ) (machine : CoordinatorMachine) (running : Running) (taken 
 
     -- memory is refused as it asks
     asks_none : (session : Session) (kept : List Kept) (asks : Asks) →
-        machine.journal.writing ≡ None → new.runner.tried ≡ None →
-        TakesOn new.runner.archive pair machine.journal running taken session kept asks →
+        machine.journal.writing ≡ None → new.plan_runner.tried ≡ None →
+        TakesOn new.plan_runner.archive pair machine.journal running taken session kept asks →
         ((now : Running) → Tells session now →
         report_shown new ≡ Some (report_of now (Some Memory))) →
         Answered new pair machine running taken kept []
@@ -157,25 +158,26 @@ module _ (pair : ℕ) (machine : CoordinatorMachine) (running : Running) (taken 
         goes_on _ _ (model.ends on.after.plan on.walks.logged (walk_at on.now on.after) kept
         (Some Memory) on.walks.fault on.walks.has on.walks.goes (model.no_memory on.status))
         (no_session new pair on.now on.is is_over
-        (tries_none new.runner.tried on.now untried (on.quiet quiet))) refl refl
+        (tries_none new.plan_runner.tried on.now untried (on.quiet quiet))) refl refl
         (ap (λ r. report_of r (Some Memory) ∷ []) same
         ∙ report_is (reaching running taken on.after) (Some Memory) (told _ on.tells))
 
-    pub asks_no_more : (runner : PlanRunner D disk) → new.runner ≡ runner →
+    pub asks_no_more : (runner : PlanRunner D disk) → new.plan_runner ≡ runner →
         machine.journal.writing ≡ None → runner.tried ≡ None → (session : Session)
         (asks : Asks) (messages : List Message) → messages ≡ [] →
         TakesOn runner.archive pair machine.journal running taken session (written runner)
         asks → ((now : Running) → Tells session now →
         report_shown new ≡ Some (report_of now (Some Memory))) →
-        Answered new pair machine running taken (written new.runner) messages
+        Answered new pair machine running taken (written new.plan_runner) messages
     asks_no_more runner same quiet untried session asks messages nothing on told =
-        subst (Answered new pair machine running taken (written new.runner)) (sym nothing)
-        (asks_none session (written new.runner) asks quiet (ap (λ r. r.tried) same ∙ untried)
+        subst (Answered new pair machine running taken (written new.plan_runner)) (sym nothing)
+        (asks_none session (written new.plan_runner) asks quiet (ap (λ r. r.tried) same ∙ untried)
         (subst (λ (r : PlanRunner D disk). TakesOn r.archive pair machine.journal running taken
         session (written r) asks) (sym same) on) told)
 
     ends_now : (session : Session) (kept : List Kept) (ended : SessionEnd) →
-        TakesEnd new.runner.archive new.runner.tried pair machine.journal running taken session
+        TakesEnd new.plan_runner.archive new.plan_runner.tried pair machine.journal running taken
+        session
         kept ended →
         ((now : Running) → Tells session now →
         report_shown new ≡ Some (report_of now (ended_by ended))) →
@@ -198,15 +200,15 @@ module _ (pair : ℕ) (machine : CoordinatorMachine) (running : Running) (taken 
         goes_down _ _ (model.stops after.plan walks.logged walk kept walks.fault walks.has
         walks.goes down) stopped down leaves refl tries
 
-    pub ends_so : (runner : PlanRunner D disk) → new.runner ≡ runner → (session : Session)
+    pub ends_so : (runner : PlanRunner D disk) → new.plan_runner ≡ runner → (session : Session)
         (ended : SessionEnd) (messages : List Message) → messages ≡ [] →
         TakesEnd runner.archive runner.tried pair machine.journal running taken session
         (written runner) ended → ((now : Running) → Tells session now →
         report_shown new ≡ Some (report_of now (ended_by ended))) →
-        Answered new pair machine running taken (written new.runner) messages
+        Answered new pair machine running taken (written new.plan_runner) messages
     ends_so runner same session ended messages nothing takes_end told =
-        subst (Answered new pair machine running taken (written new.runner)) (sym nothing)
-        (ends_now session (written new.runner) ended
+        subst (Answered new pair machine running taken (written new.plan_runner)) (sym nothing)
+        (ends_now session (written new.plan_runner) ended
         (subst (λ (r : PlanRunner D disk). TakesEnd r.archive r.tried pair machine.journal running
         taken session (written r) ended) (sym same) takes_end) told)
 
@@ -235,8 +237,8 @@ module _ {D : Type 0} {disk : Ghosts D} (old new : Coordinator D disk) (pair : �
       (takes running request now call expected took) stopped down leaves same_kept tries
 
   -- it was not
-  pub ignored_does : Stands old pair machine → new.runner.archive ≡ old.runner.archive →
-      new.running ≡ old.running → new.runner.tried ≡ old.runner.tried →
+  pub ignored_does : Stands old pair machine → new.plan_runner.archive ≡ old.plan_runner.archive →
+      new.running ≡ old.running → new.plan_runner.tried ≡ old.plan_runner.tried →
       ((running : Running) (request : Request) →
       IsExpected machine from session number running request → ⊥) → (kept : List Kept)
       (messages : List Message) → kept ≡ [] → messages ≡ [] →

@@ -78,9 +78,9 @@ idle_when_up archive pair journal is up = elim is.state as (λ _. journal.writin
 
 -- no session runs
 pub no_session : {D : Type 0} {disk : Ghosts D} (coordinator : Coordinator D disk) (pair : ℕ)
-    (journal : Journal) → IsMachine coordinator.runner.archive pair journal →
+    (journal : Journal) → IsMachine coordinator.plan_runner.archive pair journal →
     coordinator.running ≡ None →
-    Tries coordinator.runner.tried journal →
+    Tries coordinator.plan_runner.tried journal →
     Stands coordinator pair (record { journal = journal; running = None })
 no_session coordinator pair journal is running tries = record {
   journal = is;
@@ -102,10 +102,10 @@ module _ {D : Type 0} {disk : Ghosts D} (preference : Option Which)
 
   module _ (session_fits : number < 2 ^ 64) (pair_fits : pair < 2 ^ 64) where
     -- both sides are to begin the session
-    pub started : machine.journal.writing ≡ None → new.runner.tried ≡ None → (session : Ran) →
+    pub started : machine.journal.writing ≡ None → new.plan_runner.tried ≡ None → (session : Ran) →
         new.running ≡ Some session →
         ((archive : model.Archive) → IsSession archive session (begun preference number pair)) →
-        KeepsSo new.runner.archive pair machine.journal (Session number)
+        KeepsSo new.plan_runner.archive pair machine.journal (Session number)
         (Session number ∷ []) Up →
         Does old new pair (CoordinatorStarts pair preference machine) (Session number ∷ [])
         (sent_now (new_session preference number) (begins pair) (begins pair))
@@ -116,32 +116,33 @@ module _ {D : Type 0} {disk : Ghosts D} (preference : Option Which)
               subst (λ s. IsRunning journal.value s (Some (begun preference number pair)))
               (sym running)
               (begins journal.value);
-          quiet = λ _. idle_when_up new.runner.archive pair journal is up;
+          quiet = λ _. idle_when_up new.plan_runner.archive pair journal is up;
           untried = λ _. untried;
           tries =
-              tries_none new.runner.tried journal untried
-              (idle_when_up new.runner.archive pair journal is up);
+              tries_none new.plan_runner.tried journal untried
+              (idle_when_up new.plan_runner.archive pair journal is up);
         }) refl refl no_report
     started quiet untried session running begins
         (moves_down journal (keeps, shown) stopped down leaves) =
         goes_down _ _ (start_breaks number journal (Session number ∷ []) refl keeps (not_up down))
-        stopped down leaves refl (tries_none new.runner.tried journal untried
+        stopped down leaves refl (tries_none new.plan_runner.tried journal untried
         (kept_quiet pair machine.journal journal (Session number) (Session number) keeps quiet))
 
   -- and what was being written is remembered
-  remembers : HoldsTried new.runner.archive (Session number) new.runner.tried →
+  remembers : HoldsTried new.plan_runner.archive (Session number) new.plan_runner.tried →
       has_room (archive_layout pair) machine.journal (Session number) ≡ true → (journal : Journal) →
       Keeps pair machine.journal (Session number) journal [] →
-      IsShown new.runner.archive journal →
-      journal.status ≢ Up → Tries new.runner.tried journal
+      IsShown new.plan_runner.archive journal →
+      journal.status ≢ Up → Tries new.plan_runner.tried journal
   remembers held has journal keeps shown stops =
-      tries_held new.runner.archive (Session number) new.runner.tried journal held stops shown
+      tries_held new.plan_runner.archive (Session number) new.plan_runner.tried journal held stops
+      shown
       (failed_at pair machine.journal journal (Session number) keeps has)
 
   -- the device failed as the number was kept
-  pub start_failed : HoldsTried new.runner.archive (Session number) new.runner.tried →
+  pub start_failed : HoldsTried new.plan_runner.archive (Session number) new.plan_runner.tried →
       has_room (archive_layout pair) machine.journal (Session number) ≡ true → new.running ≡ None →
-      KeepsSo new.runner.archive pair machine.journal (Session number) [] Halted →
+      KeepsSo new.plan_runner.archive pair machine.journal (Session number) [] Halted →
       Does old new pair (CoordinatorStarts pair preference machine) [] []
   start_failed held has running (moves_on journal (keeps, shown) halted is) =
       goes_on _ _ (start_breaks number journal [] refl keeps (halted_not_up halted))

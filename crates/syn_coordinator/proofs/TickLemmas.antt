@@ -62,7 +62,7 @@ session_of archive session (Some now) is = (now, refl, is)
 
 module _ {D : Type 0} {disk : Ghosts D} (old new : Coordinator D disk) (pair : ℕ)
     (machine : CoordinatorMachine) (stands : Stands old pair machine)
-    (same : new.runner ≡ old.runner) (messages : List Message) where
+    (same : new.plan_runner ≡ old.plan_runner) (messages : List Message) where
   -- its archive stays
   stays : (running : Option Running) → IsRunning machine.journal.value new.running running →
       (is_some running ≡ true → is_some machine.running ≡ true) →

@@ -27,10 +27,10 @@ use Rattle.syn_session.specs.SettledItems.{Settled, nothing_settled, settled_in}
 
 module _ {D : Type 0} {disk : Ghosts D} (coordinator : Coordinator D disk) where
   abbrev pub archive_of : Archive D disk
-  archive_of = coordinator.runner.archive
+  archive_of = coordinator.plan_runner.archive
 
   abbrev pub device_of : D
-  device_of = disk_of coordinator.runner.archive
+  device_of = disk_of coordinator.plan_runner.archive
 
   -- the report of the session that ended last, since the last start
   abbrev pub report_shown : Option Report
@@ -38,14 +38,14 @@ module _ {D : Type 0} {disk : Ghosts D} (coordinator : Coordinator D disk) where
 
   -- what the last call that could write wrote into the archive, and the record in doubt
   abbrev pub written : List Kept
-  written = of.written coordinator.runner
+  written = of.written coordinator.plan_runner
 
   abbrev pub in_doubt : Option Kept
-  in_doubt = of.in_doubt coordinator.runner
+  in_doubt = of.in_doubt coordinator.plan_runner
 
   -- the record that was tried last and not kept, until the archive is opened again
   abbrev pub tried_shown : Option TriedRecord
-  tried_shown = coordinator.runner.tried
+  tried_shown = coordinator.plan_runner.tried
 
   -- a session runs
   abbrev pub runs : Bool
@@ -53,7 +53,7 @@ module _ {D : Type 0} {disk : Ghosts D} (coordinator : Coordinator D disk) where
 
   -- it is this machine of the pair
   pub record Stands (pair : ℕ) (machine : CoordinatorMachine) : Type 0 where
-    pub journal : IsMachine coordinator.runner.archive pair machine.journal
+    pub journal : IsMachine coordinator.plan_runner.archive pair machine.journal
     pub running : IsRunning machine.journal.value coordinator.running machine.running
     -- no record was cut off under a session that still runs
     pub quiet : is_some machine.running ≡ true → machine.journal.writing ≡ None
@@ -103,15 +103,15 @@ pub data Does {D : Type 0} {disk : Ghosts D} (old new : Coordinator D disk) (pai
 module _ {D : Type 0} {disk : Ghosts D} (old new : Coordinator D disk) where
   -- a device call failed, or the machine stopped
   abbrev pub FailsOrStops : Type 0
-  FailsOrStops = of.FailsOrStops old.runner new.runner
+  FailsOrStops = of.FailsOrStops old.plan_runner new.plan_runner
 
   -- a record was sent to the disk, and is in doubt
   abbrev pub BreaksOff : Type 0
-  BreaksOff = of.BreaksOff old.runner new.runner
+  BreaksOff = of.BreaksOff old.plan_runner new.plan_runner
 
   -- no record is in doubt: no device call failed, or none of a record
   abbrev pub TellsNone : Type 0
-  TellsNone = of.TellsNone old.runner new.runner
+  TellsNone = of.TellsNone old.plan_runner new.plan_runner
 
   -- where the archive of a machine that was up is halted now, a device call failed, unless the
   -- machine stopped

@@ -39,7 +39,7 @@ mod settled;
 /// both last agreed on.
 #[derive(Drop)]
 pub struct Coordinator<D: Disk> {
-    runner: PlanRunner<D>,
+    plan_runner: PlanRunner<D>,
     running: Option<Session>,
     report: Option<Report>,
 }
@@ -63,7 +63,7 @@ impl<D: Disk> Coordinator<D> {
         ensures tried { tried_shown result ≡ None }
     {
         Coordinator {
-            runner: PlanRunner::new(alloc, archive),
+            plan_runner: PlanRunner::new(alloc, archive),
             running: None,
             report: None,
         }
@@ -73,14 +73,14 @@ impl<D: Disk> Coordinator<D> {
     pub fn archive(&self) -> &Archive<D>
         ensures { result.now ≡ archive_of self.now }
     {
-        &self.runner.archive
+        &self.plan_runner.archive
     }
 
     /// Whether its machine has stopped, so that no device call is made any more.
     pub fn is_cut(&self) -> bool
         ensures { result ≡ is_stopped (D.Disk.arms (device_of self.now)) }
     {
-        self.runner.archive.is_cut()
+        self.plan_runner.archive.is_cut()
     }
 
     /// The archive. A session that runs is given up.
@@ -100,7 +100,7 @@ impl<D: Disk> Coordinator<D> {
         // By calls, or the prover would look here at all that each holds.
         drop(self.running);
         drop(self.report);
-        self.runner.into_parts()
+        self.plan_runner.into_parts()
     }
 
     /// Whether a session runs.
@@ -137,7 +137,7 @@ impl<D: Disk> Coordinator<D> {
         ensures written { map kept_of result.0.now ≡ written self.now }
         ensures in_doubt { option_map (λ kept. kept_of kept.now) result.1 ≡ in_doubt self.now }
     {
-        self.runner.kept()
+        self.plan_runner.kept()
     }
 
     /// The record that was being written as a device call failed or the machine stopped, until the
@@ -145,7 +145,7 @@ impl<D: Disk> Coordinator<D> {
     pub fn tried(&self) -> Option<&TriedRecord>
         ensures { option_map (λ tried. tried.now) result ≡ tried_shown self.now }
     {
-        self.runner.tried()
+        self.plan_runner.tried()
     }
 
     /// Starts a session: its number is kept in the archive, and both sides are to begin it. It
@@ -198,10 +198,10 @@ impl<D: Disk> Coordinator<D> {
             × (tried_shown self.new ≡ tried_shown self.old)) }
     {
         self.check_start()?;
-        let archive = &self.runner.archive;
+        let archive = &self.plan_runner.archive;
         let number = archive.last_session() + 1;
         let (session, sends) = first_requests(alloc, number, archive.pair(), preference)?;
-        match self.runner.keep_session(alloc, number) {
+        match self.plan_runner.keep_session(alloc, number) {
             Ok(()) => {
                 self.run(session);
                 Ok(sends)
@@ -224,16 +224,16 @@ impl<D: Disk> Coordinator<D> {
         ensures up { OnOk result (¬ IsHalted (archive_of self.now)) }
         ensures fits { OnOk result (session_shown (archive_of self.now) + 1 < 2 ^ 64) }
     {
-        if self.runner.archive.is_halted() {
+        if self.plan_runner.archive.is_halted() {
             return Err(StartError::Halted);
         }
         if self.running.is_some() {
             return Err(StartError::Busy);
         }
-        if self.runner.archive.last_session() == u64::MAX {
+        if self.plan_runner.archive.last_session() == u64::MAX {
             return Err(StartError::Full);
         }
-        if self.runner.archive.room() < SESSION_LENGTH {
+        if self.plan_runner.archive.room() < SESSION_LENGTH {
             return Err(StartError::JournalFull);
         }
         Ok(())
@@ -241,7 +241,7 @@ impl<D: Disk> Coordinator<D> {
 
     /// Lets the session run, whose number was kept.
     fn run(&mut self, session: Session)
-        ensures runner { self.new.runner ≡ self.old.runner }
+        ensures plan_runner { self.new.plan_runner ≡ self.old.plan_runner }
         ensures running { self.new.running ≡ Some session }
         ensures report { self.new.report ≡ None }
     {
@@ -282,7 +282,7 @@ impl<D: Disk> Coordinator<D> {
     /// takes no memory.
     fn end(&mut self, alloc: Global, ended: SessionEnd) -> Vec<Sending>
         ensures running { self.new.running ≡ None }
-        ensures runner { self.new.runner ≡ self.old.runner }
+        ensures plan_runner { self.new.plan_runner ≡ self.old.plan_runner }
         ensures report { (session : Ran) (running : Running) → self.old.running ≡ Some session
             → Tells session running
             → report_shown self.new ≡ Some (report_of running (ended_by ended)) }

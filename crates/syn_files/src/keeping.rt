@@ -192,7 +192,7 @@ where
     V: SessionWatch,
     O: Write,
 {
-    let mut sides = PolledServers {
+    let mut servers = PolledServers {
         left: PolledServer::new(command.left),
         right: PolledServer::new(command.right),
     };
@@ -206,9 +206,9 @@ where
             is_told: false,
         },
     };
-    let ended = keeper.keep(&mut coordinator, &mut sides, watch, output);
+    let ended = keeper.keep(&mut coordinator, &mut servers, watch, output);
     drop(keeper);
-    drop(sides);
+    drop(servers);
     drop(coordinator);
     ended?;
     Ok(Outcome::Done)
@@ -231,12 +231,12 @@ where
     fn keep<D: Disk, V: SessionWatch, O: Write>(
         &mut self,
         coordinator: &mut Coordinator<D>,
-        sides: &mut PolledServers<'_>,
+        servers: &mut PolledServers<'_>,
         watch: &mut V,
         output: &mut O,
     ) -> Result<(), CommandError> {
         for _round in 0..u64::MAX {
-            if let Some(found) = self.positions(sides, watch) {
+            if let Some(found) = self.positions(servers, watch) {
                 if self.since.positions != Some(found) {
                     self.run_session(coordinator, watch, output)?;
                 }
@@ -250,11 +250,11 @@ where
     /// since both were reached last.
     fn positions<V: SessionWatch>(
         &mut self,
-        sides: &mut PolledServers<'_>,
+        servers: &mut PolledServers<'_>,
         watch: &mut V,
     ) -> Option<(u64, u64)> {
-        let (side, error) = match sides.left.position(self.rt, self.alloc) {
-            Ok(left) => match sides.right.position(self.rt, self.alloc) {
+        let (side, error) = match servers.left.position(self.rt, self.alloc) {
+            Ok(left) => match servers.right.position(self.rt, self.alloc) {
                 Ok(right) => {
                     self.since.is_told = false;
                     return Some((left, right));

@@ -296,8 +296,10 @@ fn start_after<D: Disk>(
 
 /// Ends the session where it still runs, for lack of an answer. A session of the model ends so by
 /// ticks alone, and so this is as many ticks as end any; a session that has ended takes none of
-/// them. What they would send again is dropped.  Refused 9 where the machine is stopped, and 25
-/// where the session still runs: it waits for nothing then, as no session of the model does.
+/// them. What they would send again is dropped.
+///
+/// Refused 9 where the machine is stopped, and 25 where the session still runs. No clause rules
+/// that out; by the code only a session that waits for nothing comes to it.
 fn end_if_running<D: Disk>(alloc: Global, coordinator: &mut Coordinator<D>) -> Result<(), Refusal>
     ensures calls { (pair : ℕ) (machine : CoordinatorMachine)
         → Stands coordinator.old pair machine → Calls coordinator.new pair machine [] }

@@ -41,7 +41,7 @@
 //!   session runs then, and the machine was not stopped (`ended`, `goes`).
 //! - A refusal is the first cause of the start; or, where that is 8, of the checkpoint, or of the
 //!   start after it (`refused`: `Refuses`). It is 9 where a device call failed or the machine was
-//!   stopped, and 25 where a session still runs that waits for nothing, as none of the model does.
+//!   stopped, and 25 where a session still runs that no tick ends, which no clause rules out.
 #![tactic(auto)]
 
 mod driver;

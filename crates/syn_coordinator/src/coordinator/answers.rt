@@ -50,7 +50,7 @@ impl<D: Disk> Coordinator<D> {
         ensures breaks { TellsNone self.old self.new ⊎ BreaksOff self.old self.new }
         ensures halts { HaltsByFailure self.old self.new }
     {
-        self.runner.forget(alloc);
+        self.plan_runner.forget(alloc);
         let Some(running) = &mut self.running else {
             drop(reply);
             return Vec::new(alloc);
@@ -60,7 +60,7 @@ impl<D: Disk> Coordinator<D> {
             return Vec::new(alloc);
         };
         let taken = self
-            .runner
+            .plan_runner
             .take(alloc, running, from, &message.request, reply);
         // Before the next request, which may take as much memory.
         drop(message);

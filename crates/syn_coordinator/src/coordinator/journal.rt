@@ -54,9 +54,9 @@ impl<D: Disk> Coordinator<D> {
         ensures halts { HaltsByFailure self.old self.new }
     {
         archive_laws();
-        let generation = self.runner.archive.generation();
+        let generation = self.plan_runner.archive.generation();
         is_long(generation);
-        match self.runner.archive.checkpoint(alloc) {
+        match self.plan_runner.archive.checkpoint(alloc) {
             Ok(()) => Ok(()),
             Err(error) => Err(error),
         }
@@ -100,9 +100,9 @@ impl<D: Disk> Coordinator<D> {
         ensures failures { CountsFailures (ended refusal_of result)
             (D.Disk.failures (device_of self.old)) (D.Disk.failures (device_of self.new)) }
     {
-        let copy = self.runner.copy_in_doubt(alloc)?;
-        match self.runner.archive.reopen(alloc) {
-            Ok(()) => Ok(self.runner.recovered(copy)),
+        let copy = self.plan_runner.copy_in_doubt(alloc)?;
+        match self.plan_runner.archive.reopen(alloc) {
+            Ok(()) => Ok(self.plan_runner.recovered(copy)),
             Err(error) => {
                 drop(copy);
                 Err(error)
@@ -134,6 +134,6 @@ impl<D: Limit> Coordinator<D> {
             ≡ D.Disk.failures (device_of self.old) }
         ensures same { KeepsReadings self.old self.new }
     {
-        self.runner.archive.arm(arm);
+        self.plan_runner.archive.arm(arm);
     }
 }

@@ -37,10 +37,10 @@ returns-in_default g c = record {
       (reply_of c.args.reply) stands c.in_default.is) _ _ c.forget.ensures.written
       (ap messages_of c.new.ensures.items);
   report = λ _. refl;
-  breaks = inl (none_told c.args.self.now.runner c.forget.new.self c.forget.new.self
+  breaks = inl (none_told c.args.self.now.plan_runner c.forget.new.self c.forget.new.self
       c.forget.ensures.whole c.forget.ensures.tried c.forget.ensures.archive
       (none_breaks c.forget.new.self));
-  halts = λ pair machine stands up halted. absurd (up_not_halted c.args.self.now.runner.archive
+  halts = λ pair machine stands up halted. absurd (up_not_halted c.args.self.now.plan_runner.archive
       pair machine.journal stands.journal up
       (subst (λ a. IsHalted a) c.forget.ensures.archive halted));
 }
@@ -132,7 +132,7 @@ returns-in-Err-ask-clause-step g c pair machine stands =
     answered_does c.args.self.now c.end.new.self pair machine (which_of c.args.from) c.args.session
     c.args.number (reply_of c.args.reply) it.0 _ _ _ (ap is_some c.in-Some.is) it.1
     (asks_no_more pair machine it.0 (taken g k pair machine stands) c.end.new.self
-    c.end.ensures.running c.take-taken.new.self c.end.ensures.runner
+    c.end.ensures.running c.take-taken.new.self c.end.ensures.plan_runner
     (quiet g k pair machine stands) on.1 c.take-taken.new.session c.in-Ok.asks _
     (ap messages_of c.end.ensures.silent) on.0 (λ now tells. c.end.ensures.report _ now refl
     (tells_same c.take-taken.new.session c.ask.new.self now c.in-Err-ask.ensures.number
@@ -144,7 +144,7 @@ returns-in-Err-ask-clause-halts g c pair machine stands up halted =
     let k = (goal.at.returns-in-Err-ask-clause-halts g c).After-take-taken in
     let on = subst (comes_to g k pair machine stands) c.in-Ok.is (comes g k pair machine stands) in
     absurd (up_not_halted c.take-taken.new.self.archive pair on.0.now on.0.is (on.0.status ∙ up)
-    (subst (λ (r : PlanRunner _ g.D.Disk). IsHalted r.archive) c.end.ensures.runner halted))
+    (subst (λ (r : PlanRunner _ g.D.Disk). IsHalted r.archive) c.end.ensures.plan_runner halted))
 
 pub returns-in-Err-clause-step : goal.returns-in-Err-clause-step
 returns-in-Err-clause-step g c pair machine stands =
@@ -155,7 +155,7 @@ returns-in-Err-clause-step g c pair machine stands =
     answered_does c.args.self.now c.end-in-Err.new.self pair machine (which_of c.args.from)
     c.args.session c.args.number (reply_of c.args.reply) it.0 _ _ _ (ap is_some c.in-Some.is) it.1
     (ends_so pair machine it.0 (taken g k pair machine stands) c.end-in-Err.new.self
-    c.end-in-Err.ensures.running c.take-taken.new.self c.end-in-Err.ensures.runner
+    c.end-in-Err.ensures.running c.take-taken.new.self c.end-in-Err.ensures.plan_runner
     c.take-taken.new.session c.in-Err.ended _ (ap messages_of c.end-in-Err.ensures.silent) ends
     (λ now tells. c.end-in-Err.ensures.report _ now refl tells))
 
@@ -165,10 +165,10 @@ returns-in-Err-clause-halts g c pair machine stands up halted =
     let it = expected g k pair machine stands in
     let ends = subst (comes_to g k pair machine stands) c.in-Err.is (comes g k pair machine stands)
     in
-    fails_or_stops c.args.self.now.runner c.forget.new.self c.take-taken.new.self
-    c.end-in-Err.new.self.runner c.forget.ensures.archive
-    (ap (λ (r : PlanRunner _ g.D.Disk). r.archive) c.end-in-Err.ensures.runner)
+    fails_or_stops c.args.self.now.plan_runner c.forget.new.self c.take-taken.new.self
+    c.end-in-Err.new.self.plan_runner c.forget.ensures.archive
+    (ap (λ (r : PlanRunner _ g.D.Disk). r.archive) c.end-in-Err.ensures.plan_runner)
     (ends_by_failure c.forget.new.self c.take-taken.new.self pair machine.journal up it.0 _ _ _ _
     ends c.in-Err.ensures.breaks
-    (subst (λ (r : PlanRunner _ g.D.Disk). IsHalted r.archive) c.end-in-Err.ensures.runner
+    (subst (λ (r : PlanRunner _ g.D.Disk). IsHalted r.archive) c.end-in-Err.ensures.plan_runner
     halted))

@@ -10,7 +10,7 @@ returns-in_default-clause-step g c pair machine stands =
 
 pub returns-then-is_worn-clause-step : goal.returns-then-is_worn-clause-step
 returns-then-is_worn-clause-step g c pair machine stands =
-    tick_ends c.args.self.now _ pair machine stands c.end.ensures.runner _
+    tick_ends c.args.self.now _ pair machine stands c.end.ensures.plan_runner _
     c.in-Some.session c.in-Some.is _ (inl (sym c.is_worn.ensures ∙ c.if-is_worn.true, refl))
     c.end.ensures.running (λ running tells. c.end.ensures.report _ running refl tells)
     (ap messages_of c.end.ensures.silent)
@@ -22,7 +22,7 @@ returns-in-Ok-clause-step g c pair machine stands =
 
 pub returns-in-Err-clause-step : goal.returns-in-Err-clause-step
 returns-in-Err-clause-step g c pair machine stands =
-    tick_ends c.args.self.now _ pair machine stands c.end-in-Err.ensures.runner _
+    tick_ends c.args.self.now _ pair machine stands c.end-in-Err.ensures.plan_runner _
     c.in-Some.session c.in-Some.is _
     (inr (sym c.is_worn.ensures ∙ c.if-is_worn.false, refl)) c.end-in-Err.ensures.running
     (λ running tells. c.end-in-Err.ensures.report _ running refl tells)

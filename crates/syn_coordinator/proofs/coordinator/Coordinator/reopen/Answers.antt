@@ -38,14 +38,15 @@ pub returns-in-Err-clause-memory : goal.returns-in-Err-clause-memory
 returns-in-Err-clause-memory g c pair machine stands other =
     let is = stands.journal in
     let why = subst (λ p. IsReopenRefusal c.in-Err.error p
-    (g.D.Disk.seen (disk_of c.args.self.now.runner.archive))) is.pair_is c.in-Err.ensures.refusals
+    (g.D.Disk.seen (disk_of c.args.self.now.plan_runner.archive))) is.pair_is
+    c.in-Err.ensures.refusals
     in
     let memory = only_memory pair machine.journal (g.D.Disk.seen (disk_of
-    c.args.self.now.runner.archive))
+    c.args.self.now.plan_runner.archive))
     (is.leaves _ (g.met.D.Disk.seen_may_stay _)) c.in-Err.error other why in (
       memory,
       not_reopened c.args.self.now _ pair machine stands refl refl _ _ _
-          (not_down c.args.self.now.runner.archive machine.journal is.state) (λ up. up)
+          (not_down c.args.self.now.plan_runner.archive machine.journal is.state) (λ up. up)
           (λ calls arms failures meets. no_memory_to_reopen calls arms failures meets)
           (reopen_stayed c.reopen.new.self pair machine.journal (subst
           (λ e. ReadsDisk c.reopen.new.self pair machine.journal (Some (refusal_of e))) memory
@@ -58,8 +59,8 @@ returns-in_err-copy-clause-memory g c pair machine stands =
     (λ other. (
       refl,
       not_reopened c.args.self.now c.args.self.now pair machine stands refl refl _ _ _
-          (not_down c.args.self.now.runner.archive machine.journal stands.journal.state)
+          (not_down c.args.self.now.plan_runner.archive machine.journal stands.journal.state)
           (λ up. up)
           (λ calls arms failures meets. no_memory_to_reopen calls arms failures meets)
-          (reopen_early c.args.self.now.runner.archive pair machine.journal stands.journal),
+          (reopen_early c.args.self.now.plan_runner.archive pair machine.journal stands.journal),
     ))

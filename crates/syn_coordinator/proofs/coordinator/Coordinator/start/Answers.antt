@@ -83,7 +83,7 @@ returns-in-Err-clause-refused g c pair machine stands other =
 
 pub returns-in-Ok-clause-step : goal.returns-in-Ok-clause-step
 returns-in-Ok-clause-step g c pair machine stands =
-    let was = when_runs c.args.self.now.runner.archive pair machine.journal stands.journal
+    let was = when_runs c.args.self.now.plan_runner.archive pair machine.journal stands.journal
     c.in_ok-check_start.ensures.up in
     let last = ap (λ a. a.last_session) stands.journal.remembers in
     let numbered = ap (λ n. n + 1) (c.last_session-number.ensures ∙ last) in
@@ -94,14 +94,14 @@ returns-in-Ok-clause-step g c pair machine stands =
     (c.in_ok-session.ensures.begun archive) in
     let kept = subst (λ (r : PlanRunner _ g.D.Disk). KeepsSo r.archive pair machine.journal
     (Session (machine.journal.value.last_session + 1))
-    (Session (machine.journal.value.last_session + 1) ∷ []) Up) (sym c.run.ensures.runner)
+    (Session (machine.journal.value.last_session + 1) ∷ []) Up) (sym c.run.ensures.plan_runner)
     (subst (λ n. KeepsSo c.keep_session.new.self.archive pair machine.journal
     (Session n) (Session n ∷ []) Up) numbered
     (c.in-Ok.ensures.ok pair machine.journal stands.journal)) in
-    let written_is = ap written c.run.ensures.runner
+    let written_is = ap written c.run.ensures.plan_runner
     ∙ (c.in-Ok.ensures.written ∙ ap (λ n. Session n ∷ []) numbered) in
-    let untried = ap (λ r. r.tried) c.run.ensures.runner ∙ (c.in-Ok.ensures.untried
-    ∙ untried_up c.args.self.now.runner.tried machine.journal stands.tries was.up) in
+    let untried = ap (λ r. r.tried) c.run.ensures.plan_runner ∙ (c.in-Ok.ensures.untried
+    ∙ untried_up c.args.self.now.plan_runner.tried machine.journal stands.tries was.up) in
     let sent = c.in_ok-session.ensures.sends ∙ ap₂ begin_messages numbered of_pair in
     subst (λ w. Does c.args.self.now c.run.new.self pair
     (CoordinatorStarts pair (option_map which_of c.args.preference) machine) w
@@ -137,27 +137,27 @@ returns-in-Err-clause-allowed g c pair machine stands e =
 
 pub returns-in_err-check_start-clause-halts : goal.returns-in_err-check_start-clause-halts
 returns-in_err-check_start-clause-halts g c pair machine stands up halted =
-    absurd (up_not_halted c.args.self.now.runner.archive pair machine.journal stands.journal up
+    absurd (up_not_halted c.args.self.now.plan_runner.archive pair machine.journal stands.journal up
     halted)
 
 pub returns-in_err-session-clause-halts : goal.returns-in_err-session-clause-halts
 returns-in_err-session-clause-halts g c pair machine stands up halted =
-    absurd (up_not_halted c.args.self.now.runner.archive pair machine.journal stands.journal up
+    absurd (up_not_halted c.args.self.now.plan_runner.archive pair machine.journal stands.journal up
     halted)
 
 pub returns-in-Ok-clause-halts : goal.returns-in-Ok-clause-halts
 returns-in-Ok-clause-halts g c pair machine stands up halted =
     inr (subst (λ (r : PlanRunner _ g.D.Disk). is_stopped (g.D.Disk.arms (disk_of r.archive)) ≡
     true)
-    (sym c.run.ensures.runner) (keeps_not_halted c.keep_session.new.self.archive pair
+    (sym c.run.ensures.plan_runner) (keeps_not_halted c.keep_session.new.self.archive pair
     machine.journal _ _ (c.in-Ok.ensures.ok pair machine.journal stands.journal)
-    (subst (λ (r : PlanRunner _ g.D.Disk). IsHalted r.archive) c.run.ensures.runner halted)))
+    (subst (λ (r : PlanRunner _ g.D.Disk). IsHalted r.archive) c.run.ensures.plan_runner halted)))
 
 pub returns-in-Err-clause-halts : goal.returns-in-Err-clause-halts
 returns-in-Err-clause-halts g c pair machine stands up halted =
     elim (c.in-Err.ensures.memory pair machine.journal stands.journal) [
       | inl device ↦ inl (subst (λ e. CountsFailures e
-          (g.D.Disk.failures (disk_of c.args.self.now.runner.archive))
+          (g.D.Disk.failures (disk_of c.args.self.now.plan_runner.archive))
           (g.D.Disk.failures (disk_of c.keep_session.new.self.archive))) device
           c.in-Err.ensures.failures)
       | inr memory ↦ absurd (up_not_halted c.keep_session.new.self.archive pair machine.journal
