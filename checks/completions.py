@@ -27,7 +27,8 @@ class Value(typing.NamedTuple):
         if self.choices():
             return "words"
         is_address = self.name == "ADDR" or self.help.startswith("HOST:PORT")
-        if is_address or is_served and self.help.endswith("HOST:PORT of its server"):
+        is_side = self.help.endswith("HOST:PORT of its server") or "LEFT and RIGHT" in self.help
+        if is_address or is_served and is_side:
             return "host"
         if self.name == "DIR":
             return "folder"
@@ -36,11 +37,11 @@ class Value(typing.NamedTuple):
 
 
 class Option(typing.NamedTuple):
-    """A flag, or an option with its value."""
+    """A flag, or an option with its values."""
 
     short: str
     long: str
-    value: typing.Optional[Value]
+    values: list
     help: str
 
 
@@ -60,9 +61,9 @@ def value_of(line):
 
 def option_of(line):
     shown, _, told = line.strip().partition("  ")
-    found = re.fullmatch(r"(?:-(\w), )?--([\w-]+)(?: <(\w+)>)?", shown)
-    value = Value(found[3], told.strip(), True) if found[3] else None
-    return Option(found[1] or "", found[2], value, told.strip())
+    found = re.fullmatch(r"(?:-(\w), )?--([\w-]+)((?: <\w+>)*)", shown)
+    values = [Value(name, told.strip(), True) for name in re.findall(r"\w+", found[3])]
+    return Option(found[1] or "", found[2], values, told.strip())
 
 
 def command_of(name, text):
@@ -110,37 +111,53 @@ def arms(pairs):
 
 def bash(commands):
     names = " ".join([it.name for it in commands[1:]] + ["help"])
-    valued = sorted({f"--{o.long}" for it in commands for o in it.options if o.value})
+    options = [option for it in commands for option in it.options]
+    counts = sorted({len(option.values) for option in options if option.values})
     lines = [
         f"# Completion of syn for bash. {NOTE}.",
         "_syn() {",
         "    local word=${COMP_WORDS[COMP_CWORD]} last=${COMP_WORDS[COMP_CWORD - 1]}",
-        "    local command='' place=0 served='' options='' i",
+        "    local command='' place=0 served='' options='' option='' wanted=0 i",
         "    for ((i = 1; i < COMP_CWORD; i++)); do",
         "        case ${COMP_WORDS[i]} in",
         "            --served) served=-served ;;",
-        f"            {' | '.join(valued)})",
-        "                i=$((i + 1))",
-        '                [ "${COMP_WORDS[i]}" != = ] || i=$((i + 1))',
-        "                ;;",
+    ]
+    for count in counts:
+        longs = sorted({f"--{it.long}" for it in options if len(it.values) == count})
+        lines.append(f"            {' | '.join(longs)})")
+        lines.append(f"                option=${{COMP_WORDS[i]}} wanted={count}")
+        lines.append("                ;;")
+    lines += [
         "            # An address is three words: HOST, a colon and PORT.",
         "            :) i=$((i + 1)) ;;",
-        "            -*) ;;",
-        '            *) [ -n "$command" ] && place=$((place + 1)) || command=${COMP_WORDS[i]} ;;',
+        "            -* | =) ;;",
+        "            *)",
+        "                if [ $wanted -gt 0 ]; then",
+        "                    wanted=$((wanted - 1))",
+        '                elif [ -n "$command" ]; then',
+        "                    place=$((place + 1))",
+        "                else",
+        "                    command=${COMP_WORDS[i]}",
+        "                fi",
+        "                ;;",
         "        esac",
         "    done",
-        "    [ \"$last\" != = ] || last=${COMP_WORDS[COMP_CWORD - 2]}",
         "    [ \"$word\" != = ] || word=''",
         "    COMPREPLY=()",
+        "    case $word/$last in",
+        "        :/* | */:) return ;;",
+        "    esac",
+        "    [ $wanted -gt 0 ] || option=''",
         "    local action=()",
-        "    case $command$last in",
+        "    case $command$option$served in",
     ]
+    valued = [(it.name, o.long, o.values[0]) for it in commands for o in it.options if o.values]
     lines += arms(
-        (f"{it.name}--{option.long}", action(option.value))
-        for it in commands
-        for option in it.options
-        if option.value
+        (f"{name}--{long}-served", action(value, True))
+        for name, long, value in valued
+        if value.kind(True) != value.kind()
     )
+    lines += arms((f"{name}--{long}*", action(value)) for name, long, value in valued)
     lines += [
         "    esac",
         '    if [ ${#action[@]} -gt 0 ]; then',
@@ -158,7 +175,6 @@ def bash(commands):
         "    esac",
         "    case $word/$last in",
         '        -*/*) mapfile -t COMPREPLY < <(compgen -W "$options" -- "$word"); return ;;',
-        "        :/* | */:) return ;;",
         "    esac",
         "    case $command/$place$served in",
         "        /0* | help/0*)",
@@ -198,11 +214,17 @@ def quoted(text):
 
 def zsh_option(option):
     told = quoted(option.help.replace("[", "\\[").replace("]", "\\]").replace(":", "\\:"))
-    value = f":{option.value.name}:{zsh_action(option.value)}" if option.value else ""
+    values = "".join(f":{value.name}:{zsh_asked(value)}" for value in option.values)
+    end = f"'\"{values}\"" if "$" in values else f"{values}'"
     if option.short:
         both = f"-{option.short},--{option.long}"
-        return f"'(-{option.short} --{option.long})'{{{both}}}'[{told}]{value}'"
-    return f"'--{option.long}[{told}]{value}'"
+        return f"'(-{option.short} --{option.long})'{{{both}}}'[{told}]{end}"
+    return f"'--{option.long}[{told}]{end}"
+
+
+def zsh_asked(value):
+    """What zsh completes the value with, by a variable where that depends on a flag."""
+    return "$asked" if value.kind(True) != value.kind() else zsh_action(value)
 
 
 
@@ -256,9 +278,8 @@ def zsh(commands):
 
 
 def zsh_value(place, value):
-    if value.kind(True) != value.kind():
-        return f'"{place}:{value.name}:$asked"'
-    return f"'{place}:{value.name}:{zsh_action(value)}'"
+    mark = '"' if value.kind(True) != value.kind() else "'"
+    return f"{mark}{place}:{value.name}:{zsh_asked(value)}{mark}"
 
 
 def fish(commands):
@@ -294,10 +315,10 @@ def fish_text(text):
 def fish_option(option):
     short = f"-s {option.short} " if option.short else ""
     value = ""
-    if option.value and option.value.choices():
-        value = f" -x -a '{' '.join(option.value.choices())}'"
-    elif option.value:
-        value = " -r" if option.value.kind() in ("file", "folder") else " -x"
+    if option.values and option.values[0].choices():
+        value = f" -x -a '{' '.join(option.values[0].choices())}'"
+    elif option.values:
+        value = " -r" if option.values[0].kind() in ("file", "folder") else " -x"
     return f"{short}-l {option.long}{value} -d '{fish_text(option.help)}'"
 
 

@@ -1,7 +1,9 @@
-"""The edits crates/NAME/must-fail/*.edit and crates/NAME/wrong-bodies/*.edit.
+"""The wrong bodies of the crates: the files *.edit of three folders beside src/.
 
 It is what checks/texts and checks/wrong_bodies read.
 """
+# Those that the kit tries, those that checks/wrong_bodies tries in the gate, and the others.
+MUST_FAIL, GATE, LONG = "must-fail", "wrong-bodies", "more-wrong-bodies"
 
 
 class Edit:
@@ -12,7 +14,8 @@ class Edit:
     """
 
     def __init__(self, path):
-        self.path, self.name = path, f"{path.parents[1].name}/{path.stem}"
+        self.path, self.kind = path, path.parent.name
+        self.name = f"{path.parents[1].name}/{path.stem}"
         self.function, self.changes, file = None, [], None
         for line in path.read_text().splitlines():
             word, _, text = line.partition(": ")
@@ -37,7 +40,11 @@ class Edit:
 def misfit(crate, change):
     """What keeps the change from being made in the crate, if anything does."""
     file, old, new = change
+    if file is None:
+        return f"no line file: stands above: {old}"
     if new is None:
         return f"no text is to stand in the place of: {old}"
+    if new == old:
+        return f"the text in its place is the same: {old}"
     found = (crate / file).read_text().count(old) if (crate / file).exists() else 0
     return None if found == 1 else f"its text stands {found} times in {file}: {old}"

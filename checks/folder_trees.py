@@ -8,6 +8,8 @@ import subprocess
 from program import SYN, Failed
 
 MODES = [0o644, 0o644, 0o600, 0o755, 0o444]
+# What has this name in a folder belongs to syn itself.
+OWN = ".syn"
 NAMES = ["a", "b", "c", "a b", "line\nfeed", "é", "x" * 64, "-n", "~", "#"]
 
 
@@ -96,9 +98,11 @@ def write(folder, tree):
 
 
 def read(folder):
-    """The tree that stands in the folder."""
+    """The tree that stands in the folder, without what belongs to syn itself."""
     tree = {}
     for above, folders, files in os.walk(folder):
+        if OWN in folders:
+            folders.remove(OWN)
         for name in folders + files:
             place = os.path.join(above, name)
             content = None

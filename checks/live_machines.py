@@ -15,6 +15,9 @@ def seen(folder):
     """What the folder has: the bytes and the mode of each file, and None for a directory."""
     found = {}
     for where, dirs, files in os.walk(folder):
+        # What belongs to syn itself is no part of the folder.
+        if ".syn" in dirs:
+            dirs.remove(".syn")
         at = os.path.relpath(where, folder)
         for name in dirs:
             found[os.path.normpath(os.path.join(at, name))] = None

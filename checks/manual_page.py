@@ -15,8 +15,8 @@ def shown(value):
 
 
 def with_value(option):
-    value = f" {shown(option.value)}" if option.value else ""
-    return f"\\fB\\-\\-{roff(option.long)}\\fR{value}"
+    values = "".join(f" {shown(value)}" for value in option.values)
+    return f"\\fB\\-\\-{roff(option.long)}\\fR{values}"
 
 
 def own_options(command):

@@ -1,9 +1,11 @@
 """For the checks and the benchmarks: the program, servers of it, and the count of what was checked.
 
-SYN names the program. Without it that of crates/syn/out is meant, which ./demo builds.
+SYN names the program. Without it that of crates/syn/out is meant, which ./demo builds. A check that
+is told to end, by SIGTERM, ends what it has started and removes what it has made.
 """
 import os
 import pathlib
+import signal
 import socket
 import subprocess
 import sys
@@ -13,6 +15,9 @@ import time
 TOP = pathlib.Path(__file__).resolve().parents[1]
 SYN = pathlib.Path(os.environ.get("SYN", TOP / "crates/syn/out/syn")).resolve()
 
+# So that each `finally` and each `with` comes to its end.
+signal.signal(signal.SIGTERM, lambda number, _: sys.exit(128 + number))
+
 
 class Failed(Exception):
     """What should hold does not."""
@@ -21,7 +26,7 @@ class Failed(Exception):
 def need_program():
     """Ends here where the program is not built."""
     if not SYN.exists():
-        sys.exit(f"{sys.argv[0]}: {SYN} is not built: run ./demo first")
+        sys.exit(f"{sys.argv[0]}: {SYN} is not built: run ./demo, or see checks/quick")
 
 
 def free_ports(count):

@@ -1,7 +1,8 @@
 """A check of a crate alone, over the libraries that stand in out/.
 
-It is what checks/wrong_bodies and checks/slow_functions run.
+It is what checks/wrong_bodies and checks/slow_functions run, and what crates.txt says.
 """
+import functools
 import pathlib
 import re
 import shutil
@@ -12,6 +13,7 @@ KIT = pathlib.Path(shutil.which("rt")).resolve().parents[1]
 BELOW = dict(re.findall(r"^([a-z_]+)[^:\n]*:(.*)$", (TOP / "crates.txt").read_text(), re.M))
 
 
+@functools.cache
 def libraries_below(crate):
     """Ours that the crate stands on, each once."""
     found = dict.fromkeys(name for name in BELOW[crate].split() if name in BELOW)

@@ -1,38 +1,54 @@
 # Completion of syn for bash. Made by ./pages from the program's help.
 _syn() {
     local word=${COMP_WORDS[COMP_CWORD]} last=${COMP_WORDS[COMP_CWORD - 1]}
-    local command='' place=0 served='' options='' i
+    local command='' place=0 served='' options='' option='' wanted=0 i
     for ((i = 1; i < COMP_CWORD; i++)); do
         case ${COMP_WORDS[i]} in
             --served) served=-served ;;
             --archive | --connections | --every | --folder | --prefer | --user)
-                i=$((i + 1))
-                [ "${COMP_WORDS[i]}" != = ] || i=$((i + 1))
+                option=${COMP_WORDS[i]} wanted=1
+                ;;
+            --after)
+                option=${COMP_WORDS[i]} wanted=2
                 ;;
             # An address is three words: HOST, a colon and PORT.
             :) i=$((i + 1)) ;;
-            -*) ;;
-            *) [ -n "$command" ] && place=$((place + 1)) || command=${COMP_WORDS[i]} ;;
+            -* | =) ;;
+            *)
+                if [ $wanted -gt 0 ]; then
+                    wanted=$((wanted - 1))
+                elif [ -n "$command" ]; then
+                    place=$((place + 1))
+                else
+                    command=${COMP_WORDS[i]}
+                fi
+                ;;
         esac
     done
-    [ "$last" != = ] || last=${COMP_WORDS[COMP_CWORD - 2]}
     [ "$word" != = ] || word=''
     COMPREPLY=()
+    case $word/$last in
+        :/* | */:) return ;;
+    esac
+    [ $wanted -gt 0 ] || option=''
     local action=()
-    case $command$last in
-        reconcile--prefer)
-            action=(-W 'folder replica')
+    case $command$option$served in
+        format--after-served)
+            action=(-A hostname)
             ;;
-        reconcile--archive)
+        format--after* | reconcile--archive*)
             action=(-f)
             ;;
-        serve--connections | serve--user | serve--every | sync--every)
+        reconcile--prefer*)
+            action=(-W 'folder replica')
+            ;;
+        serve--connections* | serve--user* | serve--every* | sync--every*)
             action=(none)
             ;;
-        serve--folder)
+        serve--folder*)
             action=(-d)
             ;;
-        sync--prefer | run--prefer | plan--prefer)
+        sync--prefer* | run--prefer* | plan--prefer*)
             action=(-W 'left right')
             ;;
     esac
@@ -45,11 +61,14 @@ _syn() {
         '')
             options='-v --verbose -h --help -V --version'
             ;;
-        format | check | migrate | log)
-            options='-v --verbose -h --help'
+        format)
+            options='--after --served --force -v --verbose -h --help'
             ;;
         put | mkdir | rm | chmod | show)
             options='--served -v --verbose -h --help'
+            ;;
+        check | migrate | log)
+            options='-v --verbose -h --help'
             ;;
         export)
             options='--update --delete --served -v --verbose -h --help'
@@ -58,7 +77,7 @@ _syn() {
             options='--skip --served -v --verbose -h --help'
             ;;
         reconcile)
-            options='--prefer --archive --dry-run --emptied -v --verbose -h --help'
+            options='--prefer --archive --dry-run --emptied --anew -v --verbose -h --help'
             ;;
         serve)
             options='--connections --folder --user --every -v --verbose -h --help'
@@ -78,7 +97,6 @@ _syn() {
     esac
     case $word/$last in
         -*/*) mapfile -t COMPREPLY < <(compgen -W "$options" -- "$word"); return ;;
-        :/* | */:) return ;;
     esac
     case $command/$place$served in
         /0* | help/0*)

@@ -24,6 +24,9 @@ complete -c syn -n '__fish_seen_subcommand_from help' -a "$commands"
 complete -c syn -s v -l verbose -d 'Explains a refusal in plain words, and tells each item of a session'
 complete -c syn -s h -l help -d 'Print help'
 complete -c syn -n $first -s V -l version -d 'Print version'
+complete -c syn -n '__fish_seen_subcommand_from format' -l after -r -d 'Goes on after the last session of LEFT and RIGHT, whose archive is lost'
+complete -c syn -n '__fish_seen_subcommand_from format' -l served -d 'Asks the servers at LEFT and at RIGHT, each HOST:PORT'
+complete -c syn -n '__fish_seen_subcommand_from format' -l force -d 'Asks nothing, and refuses nothing but an image that is in use'
 complete -c syn -n '__fish_seen_subcommand_from format' -a 'replica archive'
 complete -c syn -n '__fish_seen_subcommand_from format' -F
 complete -c syn -n '__fish_seen_subcommand_from put' -l served -d 'Asks the server at HOST:PORT, which stands in the place of FILE'
@@ -50,6 +53,7 @@ complete -c syn -n '__fish_seen_subcommand_from reconcile' -l prefer -x -a 'fold
 complete -c syn -n '__fish_seen_subcommand_from reconcile' -l archive -r -d 'The file of what both last agreed on, made where it is missing: else FILE.folder'
 complete -c syn -n '__fish_seen_subcommand_from reconcile' -l dry-run -d 'Prints what would be done, and does nothing'
 complete -c syn -n '__fish_seen_subcommand_from reconcile' -l emptied -d 'Carries it, too, where one side has become empty'
+complete -c syn -n '__fish_seen_subcommand_from reconcile' -l anew -d 'Begins without marks, with the replica as it is: it removes nothing'
 complete -c syn -n '__fish_seen_subcommand_from reconcile' -F
 complete -c syn -n '__fish_seen_subcommand_from serve' -l connections -x -d 'Ends when N connections were served, below 2^64'
 complete -c syn -n '__fish_seen_subcommand_from serve' -l folder -r -d 'Keeps the folder DIR the same as the replica, by edits of the user of \'--user\''

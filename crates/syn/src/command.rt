@@ -4,7 +4,8 @@ ghost use Rattle.syn_cli.specs.Reads.{Asks, AsksHelp, IsMistake, IsRequest};
 ghost use Rattle.syn_cli.specs.declared.command.Command.{Command};
 
 use crate::files::DisksInFiles;
-use crate::format::format;
+use crate::format::{NewImage, format};
+use crate::question::check_format;
 use crate::simulation::{let_go, run_script, trace_script};
 use clap::error::ErrorKind;
 use std::alloc::Global;
@@ -14,14 +15,16 @@ use std::net::{Net, TcpListener, TcpStream};
 use std::sync::Wait;
 use std::thread::Threads;
 use std::time::Clock;
-use syn_cli::{Command, ImageCommand, ImportCommand, ReconcileCommand, WordsError, read_words};
+use syn_cli::{
+    Command, FormatCommand, ImageCommand, ImportCommand, ReconcileCommand, WordsError, read_words,
+};
 use syn_command::{
     CommandError, Failure, Outcome, Status, Teller, Verbosity, print_meanings, tell_answer,
 };
 use syn_disk::OsFile;
 use syn_files::{
-    NamedDisks, edit, export, import, keep_servers, migrate, plan_named, print_image, print_log,
-    print_numbers, print_path, print_plan, reconcile_named, run_session, serve_named,
+    NamedDisks, edit, export, format_after, import, keep_servers, migrate, plan_named, print_image,
+    print_log, print_numbers, print_path, print_plan, reconcile_named, run_session, serve_named,
 };
 
 /// The standard streams of a command.
@@ -34,6 +37,8 @@ pub struct Standard<'s, I, O, E> {
     pub errors: &'s mut E,
     /// Whether the errors go to a terminal, where a refusal is explained unasked.
     pub is_terminal: bool,
+    /// Whether a person is there, who is asked before something is lost.
+    pub asks: bool,
 }
 
 /// Carries out what the words ask for, of which the first is the program's own name.
@@ -72,6 +77,7 @@ where
         output,
         errors,
         is_terminal,
+        asks,
     } = streams;
     let arguments = match read_words(alloc, words) {
         Ok(arguments) => arguments,
@@ -86,6 +92,7 @@ where
             each: arguments.is_verbose,
             counts: is_terminal,
         },
+        asks,
     };
     let answer = carry_out(&context, &arguments.command, input, output, errors);
     if arguments.is_verbose || is_terminal {
@@ -104,6 +111,8 @@ struct Context<'c, H, F, N> {
     files: &'c F,
     disks: &'c N,
     verbosity: Verbosity,
+    /// Whether a person is asked before something is lost.
+    asks: bool,
 }
 
 /// Tells why the words are no command, or the help or the version where the words ask for it.
@@ -156,7 +165,7 @@ where
     F: Files + Sync,
     F::File: OsFile + Send + Sync,
     F::Dir: Send,
-    N: NamedDisks,
+    N: NamedDisks + Sync,
     I: Read,
     O: Write,
     E: Write,
@@ -166,7 +175,9 @@ where
     let teller = &mut Teller { verbosity, errors };
     let outcome = match command {
         Command::Session(pairing) => { run_session(rt, alloc, disks, *pairing, output, teller)? }
-        Command::Keep(command) => keep_servers(rt, alloc, disks, command, output, teller)?,
+        Command::Keep(command) => {
+            keep_servers(rt, alloc, disks, command, output, teller).map_err(stopped)?
+        }
         Command::Plan(pairing) => print_plan(rt, alloc, disks, *pairing, output)?,
         Command::Edit(command) => print_done(edit(rt, alloc, disks, command, input)?, output)?,
         Command::Import(command) => import_into(context, command, output, teller)?,
@@ -175,7 +186,7 @@ where
             export(rt, alloc, disks, context.files, command)?,
             output,
         )?,
-        Command::Image(command) => carry_out_on_image(context, command, output)?,
+        Command::Image(command) => carry_out_on_image(context, command, input, output, teller)?,
         Command::Serve(command) => {
             serve_named(rt, alloc, disks, context.files, command)?;
             Outcome::Done
@@ -230,6 +241,15 @@ where
     Ok(outcome)
 }
 
+/// Servers that were kept the same are left once they and the archive do not belong together, which
+/// nothing mends but a person.
+fn stopped(error: CommandError) -> Failure {
+    match error {
+        CommandError::Apart(_) => Failure::Stopped(error),
+        _ => Failure::Refused(error),
+    }
+}
+
 /// Prints `ok` and the position of the replica's last event.
 fn print_done<O: Write>(position: u64, output: &mut O) -> Result<Outcome, Failure> {
     writeln!(output, "ok {position}")?;
@@ -237,22 +257,26 @@ fn print_done<O: Write>(position: u64, output: &mut O) -> Result<Outcome, Failur
 }
 
 /// Carries out a command about an image, and answers what it came to.
-fn carry_out_on_image<H, F, N, O>(
+fn carry_out_on_image<H, F, N, I, O, E>(
     context: &Context<'_, H, F, N>,
     command: &ImageCommand<'_>,
+    input: &mut I,
     output: &mut O,
+    teller: &mut Teller<'_, E>,
 ) -> Result<Outcome, Failure>
 where
     H: Net<Listener = TcpListener, Stream = TcpStream> + Clock,
     F: Files,
     F::File: OsFile,
     N: NamedDisks,
+    I: Read,
     O: Write,
+    E: Write,
 {
     let (rt, alloc, disks) = (context.rt, context.alloc, context.disks);
     match command {
-        ImageCommand::Format { kind, pair, file } => {
-            format(alloc, context.files, file, *kind, *pair)?;
+        ImageCommand::Format(asked) => {
+            make_image(context, asked, input, teller.errors)?;
             writeln!(output, "ok")?;
         }
         ImageCommand::Show { location } => print_image(rt, alloc, disks, *location, output)?,
@@ -267,6 +291,44 @@ where
         ImageCommand::Log { file, lines } => print_log(alloc, disks, file, *lines, output)?,
     }
     Ok(Outcome::Done)
+}
+
+/// Makes a file an image; an archive may go on with two sides that have a history. Unless that is
+/// forced, the file is looked at first.
+fn make_image<H, F, N, I, E>(
+    context: &Context<'_, H, F, N>,
+    asked: &FormatCommand<'_>,
+    input: &mut I,
+    errors: &mut E,
+) -> Result<(), CommandError>
+where
+    H: Net<Stream = TcpStream>,
+    F: Files,
+    F::File: OsFile,
+    N: NamedDisks,
+    I: Read,
+    E: Write,
+{
+    let (rt, alloc, disks) = (context.rt, context.alloc, context.disks);
+    if !asked.force {
+        // A person who goes on with both sides has looked already.
+        let asks = context.asks && asked.after.is_none();
+        check_format(alloc, context.files, disks, asked.file, asks, input, errors)?;
+    }
+    match asked.after {
+        Some(between) => format_after(rt, alloc, disks, asked.file, asked.pair, between),
+        None => {
+            let image = NewImage::from(asked.kind);
+            format(
+                alloc,
+                context.files,
+                asked.file,
+                image,
+                asked.pair,
+                asked.force,
+            )
+        }
+    }
 }
 
 /// Runs the script in the file, and draws its steps first where they are traced.

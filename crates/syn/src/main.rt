@@ -38,9 +38,11 @@
 //!   error, is shown by tests alone.
 #![tactic(auto)]
 
+mod beside;
 mod command;
 mod files;
 mod format;
+mod question;
 mod simulation;
 mod streams;
 
@@ -79,6 +81,7 @@ fn main(rt: HostRuntime) -> ExitCode {
             output: &mut output,
             errors: &mut rt.stderr(),
             is_terminal: rt.stderr().is_terminal(),
+            asks: rt.stdin().is_terminal() && rt.stderr().is_terminal(),
         },
     );
     ExitCode::from(status.code())

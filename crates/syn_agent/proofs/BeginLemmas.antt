@@ -12,10 +12,10 @@ use Rattle.syn_agent.specs.declared.agent.Agent.{Agent}
 use Rattle.syn_agent.specs.Answers.{BreaksOff, WritesFor}
 use Rattle.syn_disk.specs.Stops.{LeavesOnly}
 use Rattle.syn_disk.specs.declared.disk.Disk.{Ghosts}
-use Rattle.syn_headline.specs.Machine.{record_size}
-use Rattle.syn_headline.specs.Side.{Side, Served, Begin, Begun, Refused, add_event, answer, begin}
-use Rattle.syn_headline.specs.Side.{IsUnread, Serves, TakesMemory}
-use Rattle.syn_headline.specs.Side as model
+use Rattle.syn_machine.specs.Machine.{record_size}
+use Rattle.syn_machine.specs.Side.{Side, Served, Begin, Begun, Refused, add_event, answer, begin}
+use Rattle.syn_machine.specs.Side.{IsUnread, Serves, TakesMemory}
+use Rattle.syn_machine.specs.Side as model
 use Rattle.syn_model.specs.Event.{Event, Began}
 use Rattle.syn_model.specs.History.{History, last_session, position_causes}
 use Rattle.syn_model.specs.Refusal.{Refusal, Cause, first_cause, WrongPair, OldSession, JournalFull}

@@ -6,7 +6,7 @@ use Rattle.std.proofs.lemmas.Bool.{eqb-true, false≢true}
 use Rattle.std.proofs.lemmas.Bool.Decides.{leb_tells}
 use Rattle.std.specs.Prelude.{◌||◌, ◌==◌, nat_le, nat_lt}
 use Rattle.syn_agent.specs.Causes.{CountsFailures}
-use Rattle.syn_headline.specs.Side.{Side, Served, Reply, Refused, answer, unless_refused}
+use Rattle.syn_machine.specs.Side.{Side, Served, Reply, Refused, answer, unless_refused}
 use Rattle.syn_model.specs.Event.{Edit, Put, MakeDir, Remove, Chmod, Edited}
 use Rattle.syn_model.specs.History.{History as Past, event_causes}
 use Rattle.syn_replica.specs.Steps.{add_refusal, room_causes}

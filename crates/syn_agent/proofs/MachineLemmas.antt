@@ -9,12 +9,12 @@ use Rattle.syn_agent.specs.Machines.{IsLeftAs, IsOf, IsUpAs, Takes, goes_on, hea
 use Rattle.syn_agent.specs.declared.agent.Agent.{Agent}
 use Rattle.syn_disk.specs.Arms.{is_stopped}
 use Rattle.syn_disk.specs.declared.disk.Disk.{Ghosts}
-use Rattle.syn_headline.specs.Machine.{Status, Up, Halted, Down, Writes, record_size, unarmed}
-use Rattle.syn_headline.specs.Machine.{unwritten, with_record, written}
-use Rattle.syn_headline.specs.Side.{Request, Reply, Refused, Served, Serves, Staging, answer}
-use Rattle.syn_headline.specs.SideMachine.{SideMachine, SideTakes, ServesAs, ServesHalted}
-use Rattle.syn_headline.specs.SideMachine.{has_room_for, said, side_layout, side_now, with_journal}
-use Rattle.syn_headline.specs.SideMachine as model
+use Rattle.syn_machine.specs.Machine.{Status, Up, Halted, Down, Writes, record_size, unarmed}
+use Rattle.syn_machine.specs.Machine.{unwritten, with_record, written}
+use Rattle.syn_machine.specs.Side.{Request, Reply, Refused, Served, Serves, Staging, answer}
+use Rattle.syn_machine.specs.SideMachine.{SideMachine, SideTakes, ServesAs, ServesHalted}
+use Rattle.syn_machine.specs.SideMachine.{has_room_for, said, side_layout, side_now, with_journal}
+use Rattle.syn_machine.specs.SideMachine as model
 use Rattle.syn_journal.specs.Calls.{armed_at}
 use Rattle.syn_journal.specs.Journal as journal
 use Rattle.syn_journal.specs.Layout.{HasJournal}

@@ -13,9 +13,9 @@ use Rattle.syn_agent.specs.inner.Lawful.{ListsLawfully}
 use Rattle.syn_agent.specs.declared.agent.Agent.{Agent}
 use Rattle.syn_message.specs.Listings.{IsListing}
 use Rattle.syn_disk.specs.declared.disk.Disk.{Ghosts}
-use Rattle.syn_headline.specs.Side.{Served, Fetch, ListAt, Listed, NotDir, Piece, Refused}
-use Rattle.syn_headline.specs.Side.{Serves, TakesMemory, answer, unless_refused}
-use Rattle.syn_headline.specs.Side as model
+use Rattle.syn_machine.specs.Side.{Served, Fetch, ListAt, Listed, NotDir, Piece, Refused}
+use Rattle.syn_machine.specs.Side.{Serves, TakesMemory, answer, unless_refused}
+use Rattle.syn_machine.specs.Side as model
 use Rattle.syn_history.specs.Refusals.{refusal_of as of_history}
 use Rattle.syn_history.specs.declared.error.HistoryError.{HistoryError}
 use Rattle.syn_history.specs.declared.error.HistoryError.TheVariants as history_error

@@ -14,10 +14,10 @@ use Rattle.syn_agent.specs.Causes.{staging_causes}
 use Rattle.syn_agent.specs.declared.agent.Agent.{Agent}
 use Rattle.syn_disk.specs.Stops.{LeavesOnly}
 use Rattle.syn_disk.specs.declared.disk.Disk.{Ghosts}
-use Rattle.syn_headline.specs.Side.{Side, Served, Replace, Done, Refused, Reads, add_event, answer}
-use Rattle.syn_headline.specs.Side.{is_dead_token, is_staged, replace_with, serve}
-use Rattle.syn_headline.specs.Side.{Serves, TakesMemory, staged_bytes, unless_refused}
-use Rattle.syn_headline.specs.Side as model
+use Rattle.syn_machine.specs.Side.{Side, Served, Replace, Done, Refused, Reads, add_event, answer}
+use Rattle.syn_machine.specs.Side.{is_dead_token, is_staged, replace_with, serve}
+use Rattle.syn_machine.specs.Side.{Serves, TakesMemory, staged_bytes, unless_refused}
+use Rattle.syn_machine.specs.Side as model
 use Rattle.syn_model.specs.Event.{Event, Token, Replaced, is_below, is_same_token}
 use Rattle.syn_model.specs.History.{History, is_old_token, last_session, last_token, tree_of}
 use Rattle.syn_model.specs.History.{position_causes}

@@ -8,9 +8,9 @@ use Rattle.syn_agent.specs.Agents.{side_of, staging_of}
 use Rattle.syn_agent.specs.Answers.{Answers, keeps}
 use Rattle.syn_agent.specs.declared.agent.Agent.{Agent}
 use Rattle.syn_disk.specs.declared.disk.Disk.{Ghosts}
-use Rattle.syn_headline.specs.Side.{Reply, Refused, Served, Stage, Staged, Staging, Side, answer}
-use Rattle.syn_headline.specs.Side.{GoesAfter, set_staging, stage, stage_first, token_of}
-use Rattle.syn_headline.specs.Side.{unless_refused}
+use Rattle.syn_machine.specs.Side.{Reply, Refused, Served, Stage, Staged, Staging, Side, answer}
+use Rattle.syn_machine.specs.Side.{GoesAfter, set_staging, stage, stage_first, token_of}
+use Rattle.syn_machine.specs.Side.{unless_refused}
 use Rattle.syn_message.specs.Replies.{IsLawfulReply}
 use Rattle.syn_model.specs.Event.{Token, is_below, is_same_token}
 use Rattle.syn_model.specs.History.{History}

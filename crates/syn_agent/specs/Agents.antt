@@ -3,8 +3,8 @@ use Rattle.std.specs.Prelude.{◌≡◌, ◌⊎◌, ℕ, Option}
 use Rattle.std.specs.Option.{option_map}
 use Rattle.syn_agent.specs.Stagings.{staged_of}
 use Rattle.syn_agent.specs.declared.agent.Agent.{Agent}
-use Rattle.syn_headline.specs.Side as model
-use Rattle.syn_headline.specs.Side.{GoesAfter, Side, Refused, answer, stage, stage_first}
+use Rattle.syn_machine.specs.Side as model
+use Rattle.syn_machine.specs.Side.{GoesAfter, Side, Refused, answer, stage, stage_first}
 use Rattle.syn_message.specs.Replies.{reply_of}
 use Rattle.syn_message.specs.declared.reply.Reply.{Reply}
 use Rattle.syn_model.specs.Event.{Token}

@@ -5,8 +5,8 @@ use Rattle.syn_agent.specs.declared.agent.Agent.{Agent}
 use Rattle.syn_disk.specs.Calls.{Breaks, Makes}
 use Rattle.syn_disk.specs.Stops.{LeavesOnly}
 use Rattle.syn_disk.specs.declared.disk.Disk.{Ghosts}
-use Rattle.syn_headline.specs.Machine.{record_size}
-use Rattle.syn_headline.specs.Side.{Request, Reply, Refused, Served, Serves}
+use Rattle.syn_machine.specs.Machine.{record_size}
+use Rattle.syn_machine.specs.Side.{Request, Reply, Refused, Served, Serves}
 use Rattle.syn_model.specs.Event.{Event}
 use Rattle.syn_model.specs.History.{History}
 use Rattle.syn_model.specs.Refusal.{Refusal, Device}

@@ -2,7 +2,7 @@
 use Rattle.std.specs.Prelude.{◌≡◌, ◌≢◌, ◌⊎◌, ◌<◌, ◌==◌, ℕ, false, not, List, [], ◌∷◌, length}
 use Rattle.std.specs.Prelude.{Option}
 use Rattle.std.specs.Option.{option_map_or}
-use Rattle.syn_headline.specs.Side.{Staging, Reply, Refused, is_staged, staged_bytes}
+use Rattle.syn_machine.specs.Side.{Staging, Reply, Refused, is_staged, staged_bytes}
 use Rattle.syn_model.specs.Event.{Token, is_below}
 use Rattle.syn_model.specs.Refusal.{Cause, Device, OldSession, NotStaged, BadStage}
 

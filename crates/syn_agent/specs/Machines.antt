@@ -4,9 +4,9 @@ use Rattle.syn_agent.specs.Agents.{staging_of}
 use Rattle.syn_agent.specs.declared.agent.Agent.{Agent}
 use Rattle.syn_disk.specs.Arms.{is_stopped}
 use Rattle.syn_disk.specs.declared.disk.Disk.{Ghosts}
-use Rattle.syn_headline.specs.Machine.{Status, Up, Down}
-use Rattle.syn_headline.specs.Side.{Request, Reply}
-use Rattle.syn_headline.specs.SideMachine.{SideMachine, SideTakes}
+use Rattle.syn_machine.specs.Machine.{Status, Up, Down}
+use Rattle.syn_machine.specs.Side.{Request, Reply}
+use Rattle.syn_machine.specs.SideMachine.{SideMachine, SideTakes}
 use Rattle.syn_journal.specs.Calls.{CountsNoMore, armed_at}
 use Rattle.syn_model.specs.Event.{Event}
 use Rattle.syn_model.specs.Spelling.{event_spelling}

@@ -1,8 +1,8 @@
 -- What is staged, as the model has it.
 use Rattle.std.specs.Prelude.{◌≡◌, ◌⊎◌, ℕ, Some, length}
 use Rattle.syn_agent.specs.declared.staging.Staging.{Staging}
-use Rattle.syn_headline.specs.Side as model
-use Rattle.syn_headline.specs.Side.{Side, Refused, answer, stage_more}
+use Rattle.syn_machine.specs.Side as model
+use Rattle.syn_machine.specs.Side.{Side, Refused, answer, stage_more}
 use Rattle.syn_history.specs.Events.{token_of}
 use Rattle.syn_message.specs.Replies.{reply_of}
 use Rattle.syn_message.specs.declared.reply.Reply.{Reply}

@@ -1,7 +1,7 @@
 //! Every request of a session.
 ghost use Rattle.std.specs.Prelude.{◌≡◌, ◌⊎◌, ℕ};
-ghost use Rattle.syn_headline.specs.Side.{Refused, TakesMemory, answer};
-ghost use Rattle.syn_headline.specs.SideMachine.{ServesHalted, SideMachine};
+ghost use Rattle.syn_machine.specs.Side.{Refused, TakesMemory, answer};
+ghost use Rattle.syn_machine.specs.SideMachine.{ServesHalted, SideMachine};
 ghost use Rattle.syn_message.specs.Replies.{IsLawfulReply, reply_of};
 ghost use Rattle.syn_message.specs.Requests.{request_of};
 ghost use Rattle.syn_model.specs.History.{History};

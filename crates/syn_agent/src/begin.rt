@@ -1,6 +1,6 @@
 //! A session begins on a side.
 ghost use Rattle.std.specs.Prelude.{◌≡◌};
-ghost use Rattle.syn_headline.specs.Side.{Begin, Refused, TakesMemory};
+ghost use Rattle.syn_machine.specs.Side.{Begin, Refused, TakesMemory};
 ghost use Rattle.syn_message.specs.Replies.{IsLawfulReply, reply_of};
 ghost use Rattle.syn_model.specs.History.{History};
 ghost use Rattle.syn_model.specs.Refusal as why;

@@ -1,6 +1,6 @@
 //! What holds of a replica and its agent as a side's machine, and of what a side lists.
 ghost use Rattle.std.specs.Prelude.{ℕ};
-ghost use Rattle.syn_headline.specs.SideMachine.{SideMachine};
+ghost use Rattle.syn_machine.specs.SideMachine.{SideMachine};
 ghost use Rattle.syn_replica.specs.Replica.{tree_shown};
 ghost use Rattle.syn_agent.specs.Machines.{IsOf, IsUpAs};
 ghost use Rattle.syn_agent.specs.inner.Lawful.{ListsLawfully};

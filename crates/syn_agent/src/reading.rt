@@ -1,6 +1,6 @@
 //! What a side tells of its tree.
 ghost use Rattle.std.specs.Prelude.{◌≡◌, ◌≢◌, ℕ};
-ghost use Rattle.syn_headline.specs.Side.{Fetch, ListAt, Refused, TakesMemory};
+ghost use Rattle.syn_machine.specs.Side.{Fetch, ListAt, Refused, TakesMemory};
 ghost use Rattle.syn_message.specs.Replies.{IsLawfulReply, reply_of};
 ghost use Rattle.syn_model.specs.History.{History};
 ghost use Rattle.syn_model.specs.Refusal as why;

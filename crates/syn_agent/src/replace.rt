@@ -1,6 +1,6 @@
 //! What is staged goes to its path.
 ghost use Rattle.std.specs.Prelude.{◌≡◌, Some, None, IfOk, IfErr, length, option_map, false};
-ghost use Rattle.syn_headline.specs.Side.{Reads, Refused, Replace, TakesMemory, staged_bytes};
+ghost use Rattle.syn_machine.specs.Side.{Reads, Refused, Replace, TakesMemory, staged_bytes};
 ghost use Rattle.syn_history.specs.Events.{token_of};
 ghost use Rattle.syn_message.specs.Replies.{IsLawfulReply, reply_of};
 ghost use Rattle.syn_model.specs.History.{History, is_old_token};

@@ -3,10 +3,10 @@ use Rattle.std.proofs.Common.{◌≡◌, ◌⊎◌, ◌∙◌, ℕ, true, false,
 use Rattle.std.proofs.Common.{Some, None, refl, sym, ap, subst, inl, inr}
 use Rattle.std.proofs.lemmas.Option.{none-some}
 use Rattle.syn_disk.specs.declared.disk.Disk.{Ghosts}
-use Rattle.syn_headline.specs.Coordinator.{archive_layout, cut_after, writes}
-use Rattle.syn_headline.specs.Machine.{Status, Up, Halted, Down, after_device, compacted, cut, idle}
-use Rattle.syn_headline.specs.Machine.{not_compacted, unarmed, unwritten, with_image, with_record}
-use Rattle.syn_headline.specs.Machine.{written}
+use Rattle.syn_machine.specs.Coordinator.{archive_layout, cut_after, writes}
+use Rattle.syn_machine.specs.Machine.{Status, Up, Halted, Down, after_device, compacted, cut, idle}
+use Rattle.syn_machine.specs.Machine.{not_compacted, unarmed, unwritten, with_image, with_record}
+use Rattle.syn_machine.specs.Machine.{written}
 use Rattle.syn_journal.specs.Machines as machine
 use Rattle.syn_journal.specs.Machines.{WritesImage, WritesRecord}
 use Rattle.syn_model.specs.Archive as model

@@ -7,10 +7,14 @@ use Rattle.syn_journal.specs.Journaled as journaled
 use Rattle.syn_journal.specs.Layout.{Value, HasJournal, bytes_left}
 use Rattle.syn_model.specs.Tree.{Tree}
 use Rattle.syn_model.specs.Archive as model
-use Rattle.syn_model.specs.Archive.{Kept, after_kept}
+use Rattle.syn_model.specs.Archive.{Kept, after_kept, new_archive}
 use Rattle.syn_model.specs.ArchiveImage.{ArchiveStandsFor}
 use Rattle.syn_archive.specs.Disks.{DiskKeeps, DiskCompacted, kept_size}
 use Rattle.syn_archive.specs.declared.archive.Archive.{Archive}
+
+-- a new archive that goes on after this session
+abbrev pub archive_after : ℕ → model.Archive
+archive_after session = record new_archive { last_session = session }
 
 module _ {D : Type 0} {disk : Ghosts D} (archive : Archive D disk) where
   abbrev pub pair_of : ℕ

@@ -1,7 +1,7 @@
 -- How the machine of a coordinator keeps its archive, and what a call asks it to keep.
 use Rattle.std.specs.Borrow.{Bor}
 use Rattle.std.specs.Prelude.{ℕ, Option, option_map}
-use Rattle.syn_headline.specs.Coordinator.{archive_layout}
+use Rattle.syn_machine.specs.Coordinator.{archive_layout}
 use Rattle.syn_journal.specs.Meaning.{Keeping}
 use Rattle.syn_mark.specs.Marks.{or_absent}
 use Rattle.syn_model.specs.Archive.{Archive, Kept, CanKeep, Recorded}

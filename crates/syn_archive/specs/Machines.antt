@@ -5,9 +5,9 @@ use Rattle.syn_archive.specs.Archive.{generation_shown}
 use Rattle.syn_archive.specs.declared.archive.Archive.{Archive}
 use Rattle.syn_disk.specs.Arms.{is_stopped}
 use Rattle.syn_disk.specs.declared.disk.Disk.{Ghosts}
-use Rattle.syn_headline.specs.Coordinator.{Keeps, archive_layout}
-use Rattle.syn_headline.specs.Machine.{Arms, Compacts, Journaled, Meets, Opens, Status}
-use Rattle.syn_headline.specs.Machine.{Up, Halted, Down, after_device, unarmed}
+use Rattle.syn_machine.specs.Coordinator.{Keeps, archive_layout}
+use Rattle.syn_machine.specs.Machine.{Arms, Compacts, Journaled, Meets, Opens, Status}
+use Rattle.syn_machine.specs.Machine.{Up, Halted, Down, after_device, unarmed}
 use Rattle.syn_journal.specs.Calls.{armed_at}
 use Rattle.syn_archive.specs.Keepings.{of_archive}
 use Rattle.syn_journal.specs.Meaning.{MayBeOf}

@@ -50,7 +50,7 @@ impl<D: Disk> Archive<D> {
     ghost use Rattle.syn_archive.specs.Archive.{pair_of, marks_shown, session_shown, shown};
     ghost use Rattle.syn_archive.specs.Archive.{disk_of, journal_of, room_shown, generation_shown};
     ghost use Rattle.syn_archive.specs.Archive.{left_shown, IsHalted, Stands, SameMemory};
-    ghost use Rattle.syn_archive.specs.Archive.{KeepsBeforeOrAfter};
+    ghost use Rattle.syn_archive.specs.Archive.{KeepsBeforeOrAfter, archive_after};
     ghost use Rattle.syn_archive.specs.Calls.{Writes};
     ghost use Rattle.syn_archive.specs.Machines.{IsMachine, Journal, KeepsRecord};
 
@@ -73,6 +73,34 @@ impl<D: Disk> Archive<D> {
             (λ archive. Spends D.Disk 7 None disk (disk_of archive))
             (λ refused. Spends D.Disk 7 (Some (refusal_of refused.0)) disk refused.1) }
     {
+        Self::format_after(alloc, disk, pair, 0)
+    }
+
+    /// Formats the disk as an archive of the pair that goes on after one that is lost: its root is
+    /// an empty directory, and its last session has this number. The next session is then one that
+    /// no side has seen, where no side has seen a later one.
+    ///
+    /// Refused 11 where memory is refused, and 9 where a device call fails; the disk comes back. A
+    /// stop during the call may leave a disk that opens to what it held before, to the new archive,
+    /// or to none.
+    pub fn format_after(
+        alloc: Global,
+        disk: D,
+        pair: u64,
+        session: u64,
+    ) -> Result<Archive<D>, (ArchiveError, D)>
+        ensures formatted { IfOk result (λ archive. Stands archive (archive_after session)) }
+        ensures pair { IfOk result (λ archive. pair_of archive ≡ pair) }
+        ensures generation { IfOk result (λ archive. generation_shown archive ≡ 1) }
+        ensures refusals { IfErr result (λ refused. IsOfFormat refused.0) }
+        ensures unchanged { IfErr result
+            (λ refused. (refused.0 ≡ ArchiveError.Device) ⊎ (refused.1 ≡ disk)) }
+
+        // Seven device calls where it succeeds. After 9 the last that was made failed.
+        ensures device { MatchResult result
+            (λ archive. Spends D.Disk 7 None disk (disk_of archive))
+            (λ refused. Spends D.Disk 7 (Some (refusal_of refused.0)) disk refused.1) }
+    {
         archive_laws();
         let marks = match MarkTree::of_mark(alloc, Mark::Dir) {
             Ok(marks) => marks,
@@ -80,7 +108,7 @@ impl<D: Disk> Archive<D> {
         };
         let agreed = Agreed {
             pair,
-            last_session: 0,
+            last_session: session,
             marks,
         };
         let journaled = Journaled::format(alloc, disk, agreed)?;
@@ -108,7 +136,7 @@ impl<D: Disk> Archive<D> {
         &self.journaled.state().marks
     }
 
-    /// The generation of the journal's current half: 1 after `format`.
+    /// The generation of the journal's current half: 1 after `format` and `format_after`.
     pub fn generation(&self) -> u64
         ensures { result ≡ generation_shown self.now }
     {

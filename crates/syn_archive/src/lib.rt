@@ -5,6 +5,9 @@
 //! `Stands archive kept`: the disk stands for what the model's archive keeps, a stop would leave
 //! just that, and the archive shows its marks and its last session.
 //!
+//! - `format_after` leaves an archive of the pair with no marks whose last session is the one that
+//!   is given, `archive_after` (`formatted`), and `format` one with no session. Seven device calls
+//!   write it (`device`).
 //! - `next_session`, `record` and `record_dir`, where they succeed, leave the archive with what was
 //!   kept (`acknowledged`: `after_kept`). At any moment of the call the disk stands for the archive
 //!   without it or with it (`any_moment`).

@@ -1,22 +1,26 @@
 -- Laws of the program's commands as `clap` sees them.
 use Rattle.std.proofs.Common.{◌≡◌, ◌∙◌, ◌⊎◌, ◌↔◌, Bool, IsTrue, codes, List, [], Option, Some, None}
 use Rattle.std.proofs.Common.{option_map, is_some, true, false, true≢false, refl, sym, ap₂, subst}
-use Rattle.std.proofs.Common.{inl, inr}
+use Rattle.std.proofs.Common.{inl, inr, ◌∷◌, ◌≢◌, Bor, length, map, ap, arith, slice_index_or}
+use Rattle.std.proofs.lemmas.List.{length-map}
 use Rattle.std.proofs.lemmas.Option.{none-some, same_Some}
-use Rattle.clap.specs.Words.{App, HasKind, HasMatchesOf, IsAmong, Kinds, Row, Text, fault_of}
-use Rattle.clap.specs.Words.{first_of, first_value, has_subcommand, is_simple, is_simple_and_free}
-use Rattle.clap.specs.Words.{found_of, kind_of, matches_of, rows_of, subcommand_name_of}
+use Rattle.clap.specs.Words.{App, HasKind, HasMatchesOf, IsAmong, Kinds, Row, Text, all_of}
+use Rattle.clap.specs.Words.{fault_of, first_of, first_value, has_subcommand, is_simple}
+use Rattle.clap.specs.Words.{is_simple_and_free, matched_of}
+use Rattle.clap.specs.Words.{found_of, kind_of, matches_of, raw_values, rows_of}
+use Rattle.clap.specs.Words.{subcommand_name_of}
 use Rattle.clap.specs.Words.{subcommand_of, subcommand_rows_of}
 use Rattle.clap.specs.declared.error.Error.{Error}
 use Rattle.clap.specs.declared.error.kind.ErrorKind.{ErrorKind}
 use Rattle.clap.specs.declared.error.kind.ErrorKind.TheVariants.{OutOfMemory}
 use Rattle.clap.specs.declared.parser.matches.ArgMatches.{ArgMatches}
+use Rattle.clap.specs.declared.parser.matches.Found.{Found}
 use Rattle.clap.specs.declared.parser.matches.ArgMatches.TheViews.{out-ArgMatches}
 use Rattle.clap.proofs.OnLiterals.{clap_on_literals}
-use Rattle.clap.proofs.WalkLemmas.{first_value-rows}
+use Rattle.clap.proofs.WalkLemmas.{first_value-rows, raw_values-rows}
 use Rattle.syn_cli.specs.App.{syn_app}
 use Rattle.syn_cli.specs.Reads.{Asks, AsksHelp, AsksWhy, IfUsage, IsMistake, IsRequest, IsSet}
-use Rattle.syn_cli.specs.Reads.{IsSetIn, IsValue, NothingReads, Reads, ReadsRows}
+use Rattle.syn_cli.specs.Reads.{AreOtherThanTwo, IsSetIn, IsValue, NothingReads, Reads, ReadsRows}
 use Rattle.syn_cli.specs.declared.error.WordsError.{WordsError}
 use Rattle.syn_cli.specs.declared.error.WordsError.TheVariants.{Usage, Value, Memory}
 use Rattle.syn_cli.specs.declared.command.Command.{Command}
@@ -25,6 +29,39 @@ use Rattle.syn_cli.specs.inner.Lacking.{IsLackOf}
 -- `get_str` reads the first value of a row
 pub first_value_rows : (f : _) (id : Text) → first_value f id ≡ first_of id (rows_of f)
 first_value_rows f id = first_value-rows f id
+
+-- and `get_strs` all of them
+pub strs_given : (f : Found) (id name : Text) (r : Option (Bor (List (Bor Text))))
+    (texts : Bor (List (Bor Text))) → option_map (λ s. map (λ v. v.now) s.now) r
+    ≡ option_map raw_values (matched_of f id) → r ≡ Some texts → id ≡ name
+    → all_of name (rows_of f) ≡ Some (map (λ v. v.now) texts.now)
+strs_given f id name r texts gives is named =
+    subst (λ (t : Text). all_of t (rows_of f) ≡ Some (map (λ v. v.now) texts.now)) named
+    (sym (raw_values-rows f id) ∙ (sym gives ∙ ap (option_map (λ s. map (λ v. v.now) s.now)) is))
+
+pub none_given : (f : Found) (id name : Text) (r : Option (Bor (List (Bor Text))))
+    → option_map (λ s. map (λ v. v.now) s.now) r ≡ option_map raw_values (matched_of f id)
+    → r ≡ None → id ≡ name → all_of name (rows_of f) ≡ None
+none_given f id name r gives is named =
+    subst (λ (t : Text). all_of t (rows_of f) ≡ None) named
+    (sym (raw_values-rows f id) ∙ (sym gives ∙ ap (option_map (λ s. map (λ v. v.now) s.now)) is))
+
+-- two texts are these, and others are not two
+pub given_two : (o : Option (List Text)) (xs : List (Bor Text)) (d e : Bor Text)
+    → o ≡ Some (map (λ v. v.now) xs) → length xs ≡ 2
+    → o ≡ Some ((slice_index_or xs 0 d).now ∷ (slice_index_or xs 1 e).now ∷ [])
+given_two o [] d e is two = absurd (omega (arith, two))
+given_two o (x ∷ []) d e is two = absurd (omega (arith, two))
+given_two o (x ∷ (y ∷ [])) d e is two = is
+given_two o (x ∷ (y ∷ (z ∷ zs))) d e is two = absurd (omega (arith, two))
+
+pub given_other : (rows : List Row) (id : Text) (xs : List (Bor Text))
+    → all_of id rows ≡ Some (map (λ v. v.now) xs) → length xs ≢ 2 → AreOtherThanTwo rows id
+given_other rows id xs is other = (
+  λ none. none-some _ (sym none ∙ is),
+  λ one more two. other
+      (sym (length-map xs (λ v. v.now)) ∙ ap length (same_Some _ _ (sym is ∙ two))),
+)
 
 -- the commands are of those whose matches are a function of the words
 pub syn_is_simple : is_simple syn_app ≡ true

@@ -1,6 +1,7 @@
 -- Commands by their words, and what a command and its values say.
 use Rattle.std.proofs.Common.{◌≡◌, ◌∙◌, ℕ, Bool, true, false, cond, codes, List, [], ◌∷◌, Option}
-use Rattle.std.proofs.Common.{Some, None, inl, inr, refl, sym, ap, subst, true≢false}
+use Rattle.std.proofs.Common.{Some, None, inl, inr, refl, sym, ap, subst, true≢false, arith}
+use Rattle.std.proofs.Common.{slice_index}
 use Rattle.std.specs.Str.{bytes_eq}
 use Rattle.std.proofs.lemmas.Option.{none-some, same_Some}
 use Rattle.clap.specs.Words.{Row, Text, first_of}
@@ -13,6 +14,7 @@ use Rattle.syn_cli.specs.Reads.{MayHaveNumber, MayHaveSide, NothingReads, kind_w
 use Rattle.syn_cli.specs.Reads.{IsOtherFolderSide, MayHaveFolderSide, folder_side_word}
 use Rattle.syn_cli.specs.Reads.{HasImageValues, HasSides, IsOnce, image_verb, session_verb}
 use Rattle.syn_cli.specs.Reads.{HasServed, LacksFolder, LacksUser, MayHaveFolder, TakesSeconds}
+use Rattle.syn_cli.specs.Reads.{CannotGoOn, HasText, MayGoOn, left_of, right_of}
 use Rattle.syn_cli.specs.Reads.{verb_of}
 use Rattle.syn_cli.specs.Verbs.{edit_verb, name_of, values_of, word_of}
 use Rattle.syn_cli.specs.declared.command.Between.{Between}
@@ -20,6 +22,8 @@ use Rattle.syn_cli.specs.declared.command.Between.TheVariants.{Files, Servers}
 use Rattle.syn_cli.specs.declared.command.EditKind.{EditKind}
 use Rattle.syn_cli.specs.declared.command.EditKind.TheVariants as kind
 use Rattle.syn_cli.specs.declared.command.FolderCommand.{FolderCommand}
+use Rattle.syn_cli.specs.declared.command.ImageKind.{ImageKind}
+use Rattle.syn_cli.specs.declared.command.ImageKind.TheVariants as imagekind
 use Rattle.syn_cli.specs.declared.command.ImageCommand.{ImageCommand}
 use Rattle.syn_cli.specs.declared.command.ImageCommand.TheVariants as image
 use Rattle.syn_cli.specs.declared.command.Command.{Command}
@@ -95,8 +99,10 @@ edit_given rows (kind.Chmod mode) has given =
 
 image_given : (rows : List Row) (l : ImageCommand) → HasImageValues rows l →
     AreGiven rows (values_of (image_verb l))
-image_given rows (image.Format kind pair file) has =
-    ((kind_word kind, has.0), ((has.1.0, has.1.1), ((file.now, has.2), tt)))
+image_given rows (image.Format asked) has = (
+  (kind_word asked.kind, has.kind),
+  ((has.pair.0, has.pair.1), ((asked.file.now, has.file), tt)),
+)
 image_given rows (image.Show location) has = (file_given rows location has.0, tt)
 image_given rows (image.ShowPath location path) has = (file_given rows location has.0, tt)
 image_given rows (image.Check file) has = ((file.now, has), tt)
@@ -105,13 +111,11 @@ image_given rows (image.Log file lines) has = ((file.now, has.0), tt)
 
 left_given : (rows : List Row) (between : Between) → HasSides rows between →
     IsGiven rows (name_of value.Left)
-left_given rows (Files left right) has = (left.now, has.0)
-left_given rows (Servers left right) has = (left.now, has.0)
+left_given rows between has = (left_of between, has.0)
 
 right_given : (rows : List Row) (between : Between) → HasSides rows between →
     IsGiven rows (name_of value.Right)
-right_given rows (Files left right) has = (right.now, has.1)
-right_given rows (Servers left right) has = (right.now, has.1)
+right_given rows between has = (right_of between, has.1)
 
 -- in whichever order a command has them
 session_given : (rows : List Row) (between : Between) → IsGiven rows (name_of value.Left) →
@@ -190,6 +194,13 @@ no_optional_number : (rows : List Row) (id : Text) (most : Option ℕ) → IsNoN
 no_optional_number rows id None wrong has = no_text _ wrong.0 has wrong.1
 no_optional_number rows id (Some n) wrong has = no_number 64 rows id n wrong has
 
+-- the words of the kinds differ
+other_kind : kind_word imagekind.Replica ≡ kind_word imagekind.Archive → ⊥
+other_kind e =
+    let words : codes "replica" ≡ codes "archive" = e in
+    let first : 114 ≡ 97 = ap (λ t. slice_index t 0) words in
+    absurd (omega (arith, first))
+
 -- the command of an edit, of a session or of an image is none of the others
 is_edit : Verb → Bool
 is_edit verb.Put = true
@@ -232,7 +243,7 @@ is_image _ = false
 
 image_is : (l : ImageCommand) → is_image (image_verb l) ≡ true
 unfolding is_image
-image_is (image.Format kind pair file) = refl
+image_is (image.Format asked) = refl
 image_is (image.Show location) = refl
 image_is (image.ShowPath location path) = refl
 image_is (image.Check file) = refl
@@ -247,7 +258,7 @@ no_session_edits (Files left right) is = is
 no_session_edits (Servers left right) is = is
 
 no_image_edits : (l : ImageCommand) → IsEdit (image_verb l) → ⊥
-no_image_edits (image.Format kind pair file) is = is
+no_image_edits (image.Format asked) is = is
 no_image_edits (image.Show location) is = is
 no_image_edits (image.ShowPath location path) is = is
 no_image_edits (image.Check file) is = is
@@ -257,8 +268,8 @@ no_image_edits (image.Log file lines) is = is
 module _ (rows : List Row) where
   kind_right : (l : Command) → verb_of l ≡ verb.Format → IsOtherKind rows → HasValues rows l → ⊥
   unfolding is_edit is_session
-  kind_right (command.Image (image.Format kind pair file)) is wrong has =
-      wrong.2 kind (same_Some wrong.0 (kind_word kind) (sym wrong.1 ∙ has.0))
+  kind_right (command.Image (image.Format asked)) is wrong has =
+      wrong.2 asked.kind (same_Some wrong.0 (kind_word asked.kind) (sym wrong.1 ∙ has.kind))
   kind_right (command.Edit edit) is wrong has = no_edit edit.kind verb.Format is refl
   kind_right (command.Session pairing) is wrong has =
       no_session pairing.between verb.Format is refl
@@ -267,12 +278,35 @@ module _ (rows : List Row) where
   pair_right : (l : Command) → verb_of l ≡ verb.Format → IsNoNumber 64 rows (name_of value.Pair) →
       HasValues rows l → ⊥
   unfolding is_edit is_session
-  pair_right (command.Image (image.Format kind pair file)) is wrong has =
-      no_number 64 rows (name_of value.Pair) pair wrong has.1
+  pair_right (command.Image (image.Format asked)) is wrong has =
+      no_number 64 rows (name_of value.Pair) asked.pair wrong has.pair
   pair_right (command.Edit edit) is wrong has = no_edit edit.kind verb.Format is refl
   pair_right (command.Session pairing) is wrong has =
       no_session pairing.between verb.Format is refl
   pair_right _ is wrong has = cc
+
+  -- what goes on with two replicas is an archive
+  no_after : (kind : ImageKind) (after : Option Between) → HasText rows (name_of value.Kind)
+      (kind_word kind) → CannotGoOn rows → MayGoOn rows kind after → ⊥
+  no_after kind None named (inl (given, replica)) may = given may.0
+  no_after kind None named (inr (inl (none, served))) may = may.1 served
+  no_after kind None named (inr (inr (given, other))) may = given may.0
+  no_after imagekind.Replica (Some between) named cannot may = may
+  no_after imagekind.Archive (Some between) named (inl (given, replica)) may =
+      other_kind (same_Some _ _ (sym replica ∙ named))
+  no_after imagekind.Archive (Some between) named (inr (inl (none, served))) may =
+      none-some _ (sym none ∙ may.0)
+  no_after imagekind.Archive (Some between) named (inr (inr (given, other))) may =
+      other (left_of between) (right_of between) may.0
+
+  after_right : (l : Command) → verb_of l ≡ verb.Format → CannotGoOn rows → HasValues rows l → ⊥
+  unfolding is_edit is_session
+  after_right (command.Image (image.Format asked)) is wrong has =
+      no_after asked.kind asked.after has.kind wrong has.after
+  after_right (command.Edit edit) is wrong has = no_edit edit.kind verb.Format is refl
+  after_right (command.Session pairing) is wrong has =
+      no_session pairing.between verb.Format is refl
+  after_right _ is wrong has = cc
 
   editor_right : (l : Command) → IsEdit (verb_of l) → IsNoNumber 32 rows (name_of value.User) →
       HasValues rows l → ⊥
@@ -379,7 +413,7 @@ module _ (rows : List Row) where
   no_edit_seconds (kind.Chmod mode) takes = takes
 
   no_image_seconds : (l : ImageCommand) → TakesSeconds (image_verb l) → ⊥
-  no_image_seconds (image.Format kind pair file) takes = takes
+  no_image_seconds (image.Format asked) takes = takes
   no_image_seconds (image.Show location) takes = takes
   no_image_seconds (image.ShowPath location path) takes = takes
   no_image_seconds (image.Check file) takes = takes
@@ -420,7 +454,7 @@ module _ (rows : List Row) where
   no_edit_prefers (kind.Chmod mode) takes = takes
 
   no_image_prefers : (l : ImageCommand) → TakesPreference (image_verb l) → ⊥
-  no_image_prefers (image.Format kind pair file) takes = takes
+  no_image_prefers (image.Format asked) takes = takes
   no_image_prefers (image.Show location) takes = takes
   no_image_prefers (image.ShowPath location path) takes = takes
   no_image_prefers (image.Check file) takes = takes
@@ -470,6 +504,7 @@ module _ (rows : List Row) where
   none_wrong l value.Mode wrong has = mode_right l wrong.0 wrong.1 has
   none_wrong l value.Preference wrong has = preference_right l wrong.0 wrong.1 has
   none_wrong l value.FolderPreference wrong has = folder_preference_right l wrong.0 wrong.1 has
+  none_wrong l value.After wrong has = after_right l wrong.0 wrong.1 has
   none_wrong l _ wrong has = wrong
 
   none_lacking : (l : Command) (told : ValueName) → IsLacking (verb_of l) rows told →

@@ -6,7 +6,7 @@ use Rattle.syn_cli.specs.Verbs.{name_of, values_of, verbs, word_of}
 use Rattle.syn_cli.specs.declared.value.ValueName.{ValueName}
 use Rattle.syn_cli.specs.declared.value.ValueName.TheVariants.{Path, Connections, Lines}
 use Rattle.syn_cli.specs.declared.value.ValueName.TheVariants.{Archive, FolderPreference, Seconds}
-use Rattle.syn_cli.specs.declared.value.ValueName.TheVariants.{Folder, Preference, User}
+use Rattle.syn_cli.specs.declared.value.ValueName.TheVariants.{After, Folder, Preference, User}
 use Rattle.syn_cli.specs.declared.verb.Verb.{Verb}
 use Rattle.syn_cli.specs.declared.verb.Verb.TheVariants.{Format, Put, MakeDir, Remove, Chmod}
 use Rattle.syn_cli.specs.declared.verb.Verb.TheVariants.{Show, Reconcile}
@@ -23,6 +23,10 @@ flag_rule id = record (new_rule id) { long = Some id; action = Some SetTrue }
 -- an option with a value, by its long name
 abbrev pub option_rule : Text → Text → Rule
 option_rule id long = record (new_rule id) { long = Some long }
+
+-- the option by which an archive goes on, which has two values
+abbrev pub after_rule : Rule
+after_rule = record (option_rule (name_of After) (codes "after")) { value_names = 2 }
 
 -- the flag that asks for an explanation
 abbrev pub verbose_rule : Rule
@@ -58,7 +62,8 @@ with_folder_values app = with_rule (with_rule
 
 -- the command with what may be left out of it
 abbrev pub with_options : Verb → App → App
-with_options Format app = app
+with_options Format app = with_rule (with_served (with_rule app after_rule))
+    (flag_rule (codes "force"))
 with_options Put app = with_served app
 with_options MakeDir app = with_served app
 with_options Remove app = with_served app
@@ -72,9 +77,9 @@ with_options Export app = with_served (with_rule
     (flag_rule (codes "delete")))
 with_options Import app = with_served
     (with_rule (with_rule app (new_rule (name_of Path))) (flag_rule (codes "skip")))
-with_options Reconcile app = with_rule
+with_options Reconcile app = with_rule (with_rule
     (with_rule (with_reconcile_values app) (flag_rule (codes "dry-run")))
-    (flag_rule (codes "emptied"))
+    (flag_rule (codes "emptied"))) (flag_rule (codes "anew"))
 with_options Serve app = with_folder_values
     (with_rule app (option_rule (name_of Connections) (codes "connections")))
 with_options Sync app = with_rule (with_preference app)

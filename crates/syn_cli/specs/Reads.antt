@@ -3,7 +3,7 @@ use Rattle.std.specs.Prelude.{◌≡◌, ◌≢◌, ◌⊎◌, ◌↔◌, ◌<�
 use Rattle.std.specs.Prelude.{IsTrue, codes}
 use Rattle.std.specs.Borrow.{Bor}
 use Rattle.std.specs.Str.Parse.{IsNumeral, digits_value}
-use Rattle.clap.specs.Words.{IsAmong, Row, Text, fault_of, first_of, kind_of, matches_of}
+use Rattle.clap.specs.Words.{IsAmong, Row, Text, all_of, fault_of, first_of, kind_of, matches_of}
 use Rattle.clap.specs.Words.{subcommand_of}
 use Rattle.clap.specs.declared.error.Error.{Error}
 use Rattle.clap.specs.declared.error.kind.ErrorKind.TheVariants.{DisplayHelp, DisplayVersion}
@@ -21,6 +21,7 @@ use Rattle.syn_cli.specs.declared.command.EditKind.{EditKind}
 use Rattle.syn_cli.specs.declared.command.EditKind.TheVariants as kind
 use Rattle.syn_cli.specs.declared.command.Existing.{Existing}
 use Rattle.syn_cli.specs.declared.command.Existing.TheVariants.{Refused, Updated, Mirrored}
+use Rattle.syn_cli.specs.declared.command.FormatCommand.{FormatCommand}
 use Rattle.syn_cli.specs.declared.command.ImageKind.{ImageKind}
 use Rattle.syn_cli.specs.declared.command.ImageKind.TheVariants.{Replica, Archive}
 use Rattle.syn_cli.specs.declared.command.ImageCommand.{ImageCommand}
@@ -75,6 +76,20 @@ HasLocation rows (location.Served address) =
 abbrev pub MayHaveText : List Row → Text → Option (Bor Text) → Type 0
 MayHaveText rows id None = first_of id rows ≡ None
 MayHaveText rows id (Some text) = HasText rows id text.now
+
+-- the two texts given for an id, in their order
+abbrev pub HasTwo : List Row → Text → Text → Text → Type 0
+HasTwo rows id one other = all_of id rows ≡ Some (one ∷ other ∷ [])
+
+-- the two texts given for an id, or none where nothing is given
+abbrev pub MayHaveTwo : List Row → Text → Option (Bor Text × Bor Text) → Type 0
+MayHaveTwo rows id None = all_of id rows ≡ None
+MayHaveTwo rows id (Some two) = HasTwo rows id two.0.now two.1.now
+
+-- texts are given for the id, but not two
+abbrev pub AreOtherThanTwo : List Row → Text → Type 0
+AreOtherThanTwo rows id =
+    (all_of id rows ≢ None) × ((one other : Text) → ¬ HasTwo rows id one other)
 
 -- what the flags of an export ask of a folder that has something
 abbrev pub HasExisting : List Row → Existing → Type 0
@@ -134,7 +149,7 @@ TakesSeconds _ = ⊥
 
 -- the verb of a command about an image
 abbrev pub image_verb : ImageCommand → Verb
-image_verb (image.Format kind pair file) = verb.Format
+image_verb (image.Format asked) = verb.Format
 image_verb (image.Show location) = verb.Show
 image_verb (image.ShowPath location path) = verb.Show
 image_verb (image.Check file) = verb.Check
@@ -159,11 +174,39 @@ verb_of (command.Keep kept) = verb.Sync
 verb_of (command.Plan pairing) = verb.Plan
 verb_of (command.Simulate script is_traced) = verb.Simulate
 
+-- the text of each side, the name of a file or the address of a server
+abbrev pub left_of : Between → Text
+left_of (Files left right) = left.now
+left_of (Servers left right) = left.now
+
+abbrev pub right_of : Between → Text
+right_of (Files left right) = right.now
+right_of (Servers left right) = right.now
+
+-- servers are asked exactly where the flag is used
+abbrev pub AreServed : List Row → Between → Type 0
+AreServed rows (Files left right) = ¬ IsSet rows (codes "served")
+AreServed rows (Servers left right) = IsSet rows (codes "served")
+
+-- the two replicas after which an archive goes on, the left one first, are those that are given; or
+-- none where none are given, and then no server is asked either
+abbrev pub MayGoOn : List Row → ImageKind → Option Between → Type 0
+MayGoOn rows kind None = (all_of (name_of value.After) rows ≡ None) × ¬ IsSet rows (codes "served")
+MayGoOn rows Replica (Some between) = ⊥
+MayGoOn rows Archive (Some between) =
+    HasTwo rows (name_of value.After) (left_of between) (right_of between) × AreServed rows between
+
+-- the values of an image that is to be made are those that are given
+pub record HasFormatted (rows : List Row) (asked : FormatCommand) : Type 0 where
+  pub kind : HasText rows (name_of value.Kind) (kind_word asked.kind)
+  pub pair : HasNumber 64 rows (name_of value.Pair) asked.pair
+  pub file : HasText rows (name_of value.File) asked.file.now
+  pub after : MayGoOn rows asked.kind asked.after
+  pub force : IsTrue asked.force ↔ IsSet rows (codes "force")
+
 -- the values of a command about an image are those that are given
 abbrev pub HasImageValues : List Row → ImageCommand → Type 0
-HasImageValues rows (image.Format kind pair file) =
-    HasText rows (name_of value.Kind) (kind_word kind)
-    × HasNumber 64 rows (name_of value.Pair) pair × HasText rows (name_of value.File) file.now
+HasImageValues rows (image.Format asked) = HasFormatted rows asked
 HasImageValues rows (image.Show location) = HasLocation rows location
     × (first_of (name_of value.Path) rows ≡ None)
 HasImageValues rows (image.ShowPath location path) = HasLocation rows location
@@ -175,20 +218,13 @@ HasImageValues rows (image.Log file lines) = HasText rows (name_of value.File) f
 
 -- what the session is between: what is given as the left, and what as the right
 abbrev pub HasSides : List Row → Between → Type 0
-HasSides rows (Files left right) = HasText rows (name_of value.Left) left.now
-    × HasText rows (name_of value.Right) right.now
-HasSides rows (Servers left right) = HasText rows (name_of value.Left) left.now
-    × HasText rows (name_of value.Right) right.now
+HasSides rows between = HasText rows (name_of value.Left) (left_of between)
+    × HasText rows (name_of value.Right) (right_of between)
 
 -- a session of servers is one alone: no seconds are given for others after it
 abbrev pub IsOnce : List Row → Between → Type 0
 IsOnce rows (Files left right) = Unit {0}
 IsOnce rows (Servers left right) = first_of (name_of value.Seconds) rows ≡ None
-
--- servers are asked exactly where the flag is used
-abbrev pub AreServed : List Row → Between → Type 0
-AreServed rows (Files left right) = ¬ IsSet rows (codes "served")
-AreServed rows (Servers left right) = IsSet rows (codes "served")
 
 -- the two sides of a session, its archive and the side that it prefers are those that are given
 pub record HasPairing (rows : List Row) (pairing : Pairing) : Type 0 where
@@ -214,6 +250,7 @@ pub record HasReconciled (rows : List Row) (reconciled : ReconcileCommand) : Typ
   pub preference : MayHaveFolderSide rows reconciled.preference
   pub dry : IsTrue reconciled.is_dry ↔ IsSet rows (codes "dry-run")
   pub emptied : IsTrue reconciled.is_emptied ↔ IsSet rows (codes "emptied")
+  pub anew : IsTrue reconciled.is_anew ↔ IsSet rows (codes "anew")
 
 -- the values of a folder that is kept the same are those that are given
 pub record HasFolder (rows : List Row) (kept : FolderCommand) : Type 0 where
@@ -324,10 +361,18 @@ abbrev pub LacksFolder : List Row → Type 0
 LacksFolder rows = (first_of (name_of value.Folder) rows ≡ None)
     × (IsGiven rows (name_of value.User) ⊎ IsGiven rows (name_of value.Seconds))
 
--- this value of the command is wrong: the KIND or the PAIR of a format, the USER of an edit, an
--- import or a reconciliation, the MODE of a file, the number of connections of a server, of the
--- lines of a log or of the seconds between two looks, the side that a session or a reconciliation
--- is to prefer, or the folder of a server or its user
+-- a replica is to go on after others, or servers are to be asked where nothing is to go on, or what
+-- is given to go on after is not two
+abbrev pub CannotGoOn : List Row → Type 0
+CannotGoOn rows = ((all_of (name_of value.After) rows ≢ None)
+    × HasText rows (name_of value.Kind) (kind_word Replica))
+    ⊎ ((all_of (name_of value.After) rows ≡ None) × IsSet rows (codes "served"))
+    ⊎ AreOtherThanTwo rows (name_of value.After)
+
+-- this value of the command is wrong: the KIND or the PAIR of a format or the replicas after which
+-- it goes on, the USER of an edit, an import or a reconciliation, the MODE of a file, the number of
+-- connections of a server, of the lines of a log or of the seconds between two looks, the side that
+-- a session or a reconciliation is to prefer, or the folder of a server or its user
 abbrev pub IsWrong : Verb → List Row → ValueName → Type 0
 IsWrong v rows value.Kind = (v ≡ verb.Format) × IsOtherKind rows
 IsWrong v rows value.Pair = (v ≡ verb.Format) × IsNoNumber 64 rows (name_of value.Pair)
@@ -341,6 +386,7 @@ IsWrong v rows value.Lines = (v ≡ verb.Log) × IsNoNumber 64 rows (name_of val
 IsWrong v rows value.Mode = (v ≡ verb.Chmod) × IsNoMode rows
 IsWrong v rows value.Preference = TakesPreference v × IsOtherSide rows
 IsWrong v rows value.FolderPreference = (v ≡ verb.Reconcile) × IsOtherFolderSide rows
+IsWrong v rows value.After = (v ≡ verb.Format) × CannotGoOn rows
 IsWrong v rows _ = ⊥
 
 -- the name is that of a command, each value that the command requires is given, and this one is

@@ -8,7 +8,7 @@ use Rattle.syn_cli.specs.declared.value.ValueName.TheVariants.{Command, Kind, Pa
 use Rattle.syn_cli.specs.declared.value.ValueName.TheVariants.{Path, Folder, Address, Connections}
 use Rattle.syn_cli.specs.declared.value.ValueName.TheVariants.{Lines, Archive, Left, Right}
 use Rattle.syn_cli.specs.declared.value.ValueName.TheVariants.{Mode, Script, Preference}
-use Rattle.syn_cli.specs.declared.value.ValueName.TheVariants.{FolderPreference, Seconds}
+use Rattle.syn_cli.specs.declared.value.ValueName.TheVariants.{FolderPreference, Seconds, After}
 use Rattle.syn_cli.specs.declared.verb.Verb.{Verb}
 use Rattle.syn_cli.specs.declared.verb.Verb.TheVariants.{Format, Put, MakeDir, Remove, Chmod}
 use Rattle.syn_cli.specs.declared.verb.Verb.TheVariants.{Show, Reconcile}
@@ -60,6 +60,7 @@ name_of Right = codes "RIGHT"
 name_of Script = codes "SCRIPT"
 name_of Preference = codes "SIDE"
 name_of FolderPreference = codes "SIDE"
+name_of After = codes "AFTER"
 
 -- the values that a command requires, in their order
 abbrev pub values_of : Verb → List ValueName

@@ -112,6 +112,8 @@ pub struct ReconcileCommand<'a> {
     pub is_dry: bool,
     /// A side that has become empty empties the other.
     pub is_emptied: bool,
+    /// It begins without marks, and with the replica as it is.
+    pub is_anew: bool,
 }
 
 /// What a session is between.
@@ -169,15 +171,23 @@ pub struct FolderCommand<'a> {
     pub seconds: Option<u64>,
 }
 
+/// An image that is to be made.
+#[derive(Clone, Copy, Debug, PartialEq, Eq)]
+pub struct FormatCommand<'a> {
+    pub kind: ImageKind,
+    pub pair: u64,
+    pub file: &'a str,
+    /// The replicas of the pair, where the image is an archive that goes on after a lost one.
+    pub after: Option<Between<'a>>,
+    /// Nothing is asked, and nothing is refused but an image that is in use.
+    pub force: bool,
+}
+
 /// What is done about an image.
 #[derive(Clone, Copy, Debug, PartialEq, Eq)]
 pub enum ImageCommand<'a> {
-    /// Makes the file an image of the kind, for the pair.
-    Format {
-        kind: ImageKind,
-        pair: u64,
-        file: &'a str,
-    },
+    /// Makes a file an image.
+    Format(FormatCommand<'a>),
     /// Prints a whole image.
     Show {
         location: ReplicaLocation<'a>,

@@ -2,10 +2,10 @@
 ghost use Rattle.std.specs.Prelude.{◌≡◌, IfOk, false};
 ghost use Rattle.clap.specs.Words.{app_of, rule_of, with_rule};
 ghost use Rattle.clap.specs.declared.Command.TheViews.{out-Command};
-ghost use Rattle.syn_cli.specs.App.{flag_rule, option_rule, syn_app, top_app, verb_app};
+ghost use Rattle.syn_cli.specs.App.{after_rule, flag_rule, option_rule, syn_app, top_app, verb_app};
 ghost use Rattle.syn_cli.specs.App.{verbose_rule, with_options, with_preference, word_app};
 ghost use Rattle.syn_cli.specs.App.{with_folder_values, with_reconcile_values};
-ghost use Rattle.syn_cli.specs.declared.verb.Verb.TheVariants.{Export, Reconcile, Serve};
+ghost use Rattle.syn_cli.specs.declared.verb.Verb.TheVariants.{Export, Format, Reconcile, Serve};
 
 use crate::value::ValueName;
 use crate::verb::Verb;
@@ -27,8 +27,11 @@ const VERBOSE: &str = "Explains a refusal in plain words, and tells each item of
 /// What the help says of the flag by which a server is asked.
 const SERVED: &str = "Asks the server at HOST:PORT, which stands in the place of FILE";
 
-/// What the help says of the flag by which two servers are asked for a plan.
+/// What the help says of the flag by which two servers are asked.
 const BOTH_SERVED: &str = "Asks the servers at LEFT and at RIGHT, each HOST:PORT";
+
+/// What the help says of the flag by which a format overwrites what it finds.
+const FORCE: &str = "Asks nothing, and refuses nothing but an image that is in use";
 
 /// What the help says of the flag by which a simulation tells its steps.
 const TRACE: &str = "Prints each message, stop and opening before the reports";
@@ -44,6 +47,9 @@ const DRY_RUN: &str = "Prints what would be done, and does nothing";
 
 /// What the help says of the flag by which an empty side empties the other.
 const EMPTIED: &str = "Carries it, too, where one side has become empty";
+
+/// What the help says of the flag by which a reconciliation begins without marks.
+const ANEW: &str = "Begins without marks, with the replica as it is: it removes nothing";
 
 /// What the help says of the flag by which an import leaves something out.
 const SKIP: &str = "Leaves out what can stand in no replica, and tells it";
@@ -126,6 +132,7 @@ fn with_optional<'a>(
     ensures globals { IfOk result (λ c. (out-Command c).has_globals ≡ false) }
 {
     match verb {
+        Verb::Format => with_format_options(alloc, command),
         Verb::Put | Verb::MakeDir | Verb::Remove | Verb::Chmod => {
             with_flag(alloc, command, "served", SERVED)
         }
@@ -158,7 +165,7 @@ fn with_optional<'a>(
             with_flag(alloc, preferring, "served", BOTH_SERVED)
         }
         Verb::Simulate => with_flag(alloc, command, "trace", TRACE),
-        Verb::Format | Verb::Check | Verb::Migrate => Ok(command),
+        Verb::Check | Verb::Migrate => Ok(command),
     }
 }
 
@@ -174,6 +181,29 @@ fn with_preference<'a>(
 {
     let help: &'a str = ValueName::Preference.help(verb);
     with_option(alloc, command, "SIDE", "prefer", help)
+}
+
+/// The command with what may be left out of a format.
+fn with_format_options<'a>(alloc: Global, command: Command<'a>) -> Result<Command<'a>, AllocError>
+    requires { (out-Command command).has_globals ≡ false }
+    ensures app { IfOk result (λ c. app_of c ≡ with_options Format (app_of command.entry)) }
+    ensures globals { IfOk result (λ c. (out-Command c).has_globals ≡ false) }
+{
+    let following = with_after(alloc, command)?;
+    let asking = with_flag(alloc, following, "served", BOTH_SERVED)?;
+    with_flag(alloc, asking, "force", FORCE)
+}
+
+/// The command with the option by which an archive goes on. It has two values.
+fn with_after<'a>(alloc: Global, command: Command<'a>) -> Result<Command<'a>, AllocError>
+    requires { (out-Command command).has_globals ≡ false }
+    ensures app { IfOk result (λ c. app_of c ≡ with_rule (app_of command.entry) after_rule) }
+    ensures globals { IfOk result (λ c. (out-Command c).has_globals ≡ false) }
+{
+    let help: &'a str = ValueName::After.help(Verb::Format);
+    let sides: &'a [&'a str] = &["LEFT", "RIGHT"];
+    let after = Arg::new(alloc, "AFTER").long("after").value_names(sides);
+    command.arg(after.help(help))
 }
 
 /// The command with what may be left out of an export.
@@ -200,7 +230,8 @@ fn with_reconcile_options<'a>(
 {
     let placed = with_reconcile_values(alloc, command)?;
     let showing = with_flag(alloc, placed, "dry-run", DRY_RUN)?;
-    with_flag(alloc, showing, "emptied", EMPTIED)
+    let emptying = with_flag(alloc, showing, "emptied", EMPTIED)?;
+    with_flag(alloc, emptying, "anew", ANEW)
 }
 
 /// The command with the options of a reconciliation that have a value.

@@ -8,6 +8,8 @@
 //! - `read_words` answers the command that the words say (`ok`: `Asks`). Where they ask for help or
 //!   the version it says so (`asked`), and where it tells a mistake no command is what they say
 //!   (`mistaken`). A value that is told is wrong (`wrong`).
+//! - So replicas to go on after are given for an archive alone, and `format` asks servers with them
+//!   alone (`IsWrong`, at `After`).
 #![tactic(auto)]
 
 mod command;
@@ -21,8 +23,8 @@ mod words;
 
 pub use command::{
     Arguments, Between, Command, EditCommand, EditKind, Existing, ExportCommand, FolderCommand,
-    ImageCommand, ImageKind, ImportCommand, KeepCommand, OnStranger, Pairing, ReconcileCommand,
-    ReplicaLocation, ServeCommand,
+    FormatCommand, ImageCommand, ImageKind, ImportCommand, KeepCommand, OnStranger, Pairing,
+    ReconcileCommand, ReplicaLocation, ServeCommand,
 };
 pub use error::WordsError;
 pub use value::ValueName;

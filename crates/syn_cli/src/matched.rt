@@ -4,20 +4,22 @@ ghost use Rattle.clap.specs.Words.{found_of, rows_of};
 ghost use Rattle.syn_cli.specs.Reads.{HasExisting, HasMode, HasNumber, HasOnStranger, HasText};
 ghost use Rattle.syn_cli.specs.Reads.{HasUser, IsEdit};
 ghost use Rattle.syn_cli.specs.Reads.{MayHaveFolderSide, MayHaveNumber, MayHaveSide};
-ghost use Rattle.syn_cli.specs.Reads.{IsGiven, MayHaveFolder, TakesSeconds};
+ghost use Rattle.syn_cli.specs.Reads.{IsGiven, MayGoOn, MayHaveFolder, TakesSeconds};
 ghost use Rattle.syn_cli.specs.Reads.{TakesPreference, kind_word};
 ghost use Rattle.syn_cli.specs.Verbs.{edit_verb, name_of};
 ghost use Rattle.syn_tree.specs.Modes.{mode_digits, mode_of};
 ghost use Rattle.syn_cli.specs.inner.Lacking.{IsLack, IsCommandOf};
 
 use crate::command::{
-    Between, Command, EditCommand, EditKind, Existing, ExportCommand, FolderCommand, ImageCommand,
-    ImageKind, ImportCommand, KeepCommand, OnStranger, Pairing, ReconcileCommand, ServeCommand,
+    Between, Command, EditCommand, EditKind, Existing, ExportCommand, FolderCommand, FormatCommand,
+    ImageCommand, ImageKind, ImportCommand, KeepCommand, OnStranger, Pairing, ReconcileCommand,
+    ServeCommand,
 };
 use crate::error::WordsError;
 use crate::value::ValueName;
 use crate::values::{
-    folder_side, image_kind, is_set, location, mode, number, optional_text, side, text, user,
+    between, folder_side, image_kind, is_set, location, mode, number, optional_text, side, text,
+    two_texts, user,
 };
 use crate::verb::Verb;
 use clap::ArgMatches;
@@ -57,7 +59,33 @@ fn format_command<'a>(matches: &ArgMatches<'a>) -> Result<Command<'a>, WordsErro
     let kind = kind_given(matches)?;
     let pair = pair_given(matches)?;
     let file = text(matches, ValueName::File)?;
-    Ok(Command::Image(ImageCommand::Format { kind, pair, file }))
+    let after = after_given(matches, kind)?;
+    let force = is_set(matches, "force");
+    Ok(Command::Image(ImageCommand::Format(FormatCommand {
+        kind,
+        pair,
+        file,
+        after,
+        force,
+    })))
+}
+
+/// The replicas after which an archive goes on, where they are given. No replica has them, and
+/// without them no server is asked.
+fn after_given<'a>(
+    matches: &ArgMatches<'a>,
+    kind: ImageKind,
+) -> Result<Option<Between<'a>>, WordsError>
+    requires { HasText (rows_of (found_of matches.now)) (name_of ValueName.Kind) (kind_word kind) }
+    ensures ok { IfOk result (MayGoOn (rows_of (found_of matches.now)) kind) }
+    ensures lacks { IfErr result (IsLack Verb.Format (rows_of (found_of matches.now))) }
+{
+    let given = two_texts(matches, ValueName::After)?;
+    match (given, kind) {
+        (Some((left, right)), ImageKind::Archive) => Ok(Some(between(matches, left, right))),
+        (None, _) if !is_set(matches, "served") => Ok(None),
+        _ => Err(WordsError::Value(ValueName::After)),
+    }
 }
 
 fn kind_given(matches: &ArgMatches<'_>) -> Result<ImageKind, WordsError>
@@ -247,6 +275,7 @@ fn reconcile_command<'a>(matches: &ArgMatches<'a>) -> Result<Command<'a>, WordsE
     let preference = folder_preference_given(matches)?;
     let is_dry = is_set(matches, "dry-run");
     let is_emptied = is_set(matches, "emptied");
+    let is_anew = is_set(matches, "anew");
     Ok(Command::Reconcile(ReconcileCommand {
         folder,
         file,
@@ -255,6 +284,7 @@ fn reconcile_command<'a>(matches: &ArgMatches<'a>) -> Result<Command<'a>, WordsE
         preference,
         is_dry,
         is_emptied,
+        is_anew,
     }))
 }
 
@@ -402,11 +432,7 @@ fn plan_command<'a>(matches: &ArgMatches<'a>) -> Result<Command<'a>, WordsError>
     let left = text(matches, ValueName::Left)?;
     let right = text(matches, ValueName::Right)?;
     let archive = text(matches, ValueName::Archive)?;
-    let between = if is_set(matches, "served") {
-        Between::Servers { left, right }
-    } else {
-        Between::Files { left, right }
-    };
+    let between = between(matches, left, right);
     let preference = preference_given(matches, Verb::Plan)?;
     Ok(Command::Plan(Pairing {
         between,

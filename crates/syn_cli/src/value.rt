@@ -25,6 +25,7 @@ pub enum ValueName {
     Script,
     Preference,
     FolderPreference,
+    After,
 }
 
 impl ValueName {
@@ -49,6 +50,7 @@ impl ValueName {
             ValueName::Right => "RIGHT",
             ValueName::Script => "SCRIPT",
             ValueName::Preference | ValueName::FolderPreference => "SIDE",
+            ValueName::After => "AFTER",
         }
     }
 
@@ -62,6 +64,7 @@ impl ValueName {
             ValueName::Mode => "three octal digits",
             ValueName::Preference => "'left' or 'right'",
             ValueName::FolderPreference => "'folder' or 'replica'",
+            ValueName::After => "LEFT and RIGHT, after which an archive goes on",
             _ => "there",
         }
     }
@@ -129,6 +132,9 @@ impl ValueName {
             }
             ValueName::FolderPreference => {
                 "Where both changed, SIDE overwrites the other: 'folder' or 'replica'"
+            }
+            ValueName::After => {
+                "Goes on after the last session of LEFT and RIGHT, whose archive is lost"
             }
         }
     }

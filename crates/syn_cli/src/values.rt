@@ -3,6 +3,7 @@ ghost use Rattle.std.specs.Prelude.{◌≡◌, ◌≢◌, ◌↔◌, ℕ, IfOk, 
 ghost use Rattle.std.specs.Prelude.{IfSome, IfNone};
 ghost use Rattle.clap.specs.Words.{first_of, found_of, rows_of};
 ghost use Rattle.syn_cli.specs.Reads.{HasLocation, IsNumber, IsSet, folder_side_word, kind_word};
+ghost use Rattle.syn_cli.specs.Reads.{AreOtherThanTwo, AreServed, MayHaveTwo, left_of, right_of};
 ghost use Rattle.syn_cli.specs.Reads.{side_word};
 ghost use Rattle.syn_cli.specs.Verbs.{name_of};
 ghost use Rattle.syn_cli.specs.declared.error.WordsError.TheVariants.{Value};
@@ -11,7 +12,7 @@ ghost use Rattle.syn_path.specs.declared.side.Side.{Side as Named};
 ghost use Rattle.syn_tree.specs.Modes.{mode_digits, mode_of};
 ghost use Rattle.syn_tree.specs.declared.mode.Mode.{Mode as Bits};
 
-use crate::command::{ImageKind, ReplicaLocation};
+use crate::command::{Between, ImageKind, ReplicaLocation};
 use crate::error::WordsError;
 use crate::value::ValueName;
 use clap::ArgMatches;
@@ -49,6 +50,38 @@ pub(crate) fn is_set(matches: &ArgMatches<'_>, id: &str) -> bool
     ensures { IsTrue result ↔ IsSet (rows_of (found_of matches.now)) id.now }
 {
     matches!(matches.get_str(id), Some("true"))
+}
+
+/// The two texts that are given for the value, if any is.
+pub(crate) fn two_texts<'a>(
+    matches: &ArgMatches<'a>,
+    value: ValueName,
+) -> Result<Option<(&'a str, &'a str)>, WordsError>
+    ensures ok { IfOk result (MayHaveTwo (rows_of (found_of matches.now)) (name_of value)) }
+    ensures value { IfErr result (λ error. error ≡ Value value) }
+    ensures other { OnErr result (AreOtherThanTwo (rows_of (found_of matches.now))
+        (name_of value)) }
+{
+    let Some(texts) = matches.get_strs(value.as_str()) else {
+        return Ok(None);
+    };
+    if texts.len() != 2 {
+        return Err(WordsError::Value(value));
+    }
+    Ok(Some((texts[0], texts[1])))
+}
+
+/// Both as servers where they are asked, and else as files.
+pub(crate) fn between<'a>(matches: &ArgMatches<'_>, left: &'a str, right: &'a str) -> Between<'a>
+    ensures left { left_of result ≡ left.now }
+    ensures right { right_of result ≡ right.now }
+    ensures served { AreServed (rows_of (found_of matches.now)) result }
+{
+    if is_set(matches, "served") {
+        Between::Servers { left, right }
+    } else {
+        Between::Files { left, right }
+    }
 }
 
 /// The file or the server that is given.

@@ -4,9 +4,9 @@ use Rattle.std.proofs.Common.{cond, not, Some, refl, sym, ap, ap₂, ◌∙◌, 
 use Rattle.std.proofs.Common.{arith, inl, inr, length, length-append}
 use Rattle.std.proofs.lemmas.List.{map-append}
 use Rattle.std.specs.Prelude.{Contains}
-use Rattle.syn_headline.specs.Network.{Which, Left}
-use Rattle.syn_headline.specs.Session.{Exchange}
-use Rattle.syn_headline.specs.Side.{ListAt, Reply}
+use Rattle.syn_machine.specs.Network.{Which, Left}
+use Rattle.syn_machine.specs.Session.{Exchange}
+use Rattle.syn_machine.specs.Side.{ListAt, Reply}
 use Rattle.syn_model.specs.Dirty.{IsScanBy}
 use Rattle.syn_model.specs.Path.{Path}
 use Rattle.syn_model.proofs.PathLemmas.{path_itself}

@@ -9,10 +9,14 @@ use Rattle.syn_archive.specs.Refusals.{refusal_of as of_archive}
 use Rattle.syn_refusal.specs.Refusals.{cause_of}
 use Rattle.syn_user.specs.Refusals.{refusal_of as of_user}
 use Rattle.syn_folder.specs.Refusals.{refusal_of as of_folder}
+use Rattle.syn_pair.specs.Marks.{refusal_of as of_marks}
+use Rattle.syn_pair.specs.Refusals.{refusal_of as of_pair}
 use Rattle.syn_command.specs.declared.error.CommandError.{CommandError}
 use Rattle.syn_command.specs.declared.error.CommandError.TheVariants.{Path, Open, Replica, Archive}
 use Rattle.syn_command.specs.declared.error.CommandError.TheVariants.{Refused, Device}
 use Rattle.syn_command.specs.declared.error.CommandError.TheVariants.{Memory, User, Folder}
+use Rattle.syn_command.specs.declared.error.CommandError.TheVariants.{Apart, Beside, Marks}
+use Rattle.syn_command.specs.declared.error.CommandError.TheVariants.{OlderServer}
 use Rattle.syn_cli.specs.declared.command.EditKind.{EditKind}
 use Rattle.syn_cli.specs.declared.command.EditKind.TheVariants.{Put}
 
@@ -25,6 +29,10 @@ refusal_of (Archive error) = of_archive error
 refusal_of (Refused refusal) = cause_of refusal
 refusal_of (User error) = of_user error
 refusal_of (Folder error) = of_folder error
+refusal_of (Apart mismatch) = of_pair mismatch
+refusal_of (Marks mismatch) = of_marks mismatch
+refusal_of (OlderServer side) = why.WrongPair
+refusal_of (Beside error) = why.Device
 refusal_of (Device error) = why.Device
 refusal_of Memory = why.Memory
 

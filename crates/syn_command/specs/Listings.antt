@@ -1,8 +1,8 @@
 -- What a side was asked for its listings, what they show, and why they show nothing.
 use Rattle.std.specs.Prelude.{◌≡◌, ◌<◌, ℕ, List, [], ◌∷◌, length, map, Contains, Option, Some}
-use Rattle.syn_headline.specs.Network.{Which, Left}
-use Rattle.syn_headline.specs.Session.{fault_of}
-use Rattle.syn_headline.specs.Side.{ListAt, Listed, NotDir, Reply}
+use Rattle.syn_machine.specs.Network.{Which, Left}
+use Rattle.syn_machine.specs.Session.{fault_of}
+use Rattle.syn_machine.specs.Side.{ListAt, Listed, NotDir, Reply}
 use Rattle.syn_model.specs.Dirty.{IsScanBy}
 use Rattle.syn_model.specs.Limits.{most_nodes}
 use Rattle.syn_model.specs.Path.{Name, Path}

@@ -9,12 +9,22 @@ use std::{fmt, io};
 use syn_archive::ArchiveError;
 use syn_disk::OpenError;
 use syn_folder::FolderError;
-use syn_path::PathError;
+use syn_pair::{MarksMismatch, Mismatch};
+use syn_path::{PathError, Side};
 use syn_print::PrintError;
 use syn_refusal::Refusal;
 use syn_replica::ReplicaError;
 use syn_user::UserError;
 use thiserror::Error;
+
+/// Why a file beside an image is not to be had.
+#[derive(Debug, Drop)]
+pub enum BesideError {
+    /// The system refuses to read or to write the file of this path.
+    System { path: String, error: io::Error },
+    /// The file of this path is nothing that `syn` has written.
+    Strange { path: String },
+}
 
 /// Why a command is refused, by what refused it.
 #[derive(Debug, Drop, Error)]
@@ -33,6 +43,14 @@ pub enum CommandError {
     User(UserError),
     /// A folder cannot be read or written, or not as it is asked.
     Folder(FolderError),
+    /// The sides and the archive do not belong together.
+    Apart(Mismatch),
+    /// The program that serves this side is of an older version.
+    OlderServer(Side),
+    /// The marks of a folder are not of the replica.
+    Marks(MarksMismatch),
+    /// A file beside an image cannot be read or written, or is somebody else's.
+    Beside(BesideError),
     /// Standard input cannot be read, standard output cannot be written, or the file cannot be
     /// made.
     Device(io::Error),
@@ -53,6 +71,10 @@ impl CommandError {
             CommandError::Refused(refusal) => *refusal,
             CommandError::User(error) => error.refusal(),
             CommandError::Folder(error) => error.refusal(),
+            CommandError::Apart(mismatch) => mismatch.refusal(),
+            CommandError::OlderServer(_) => Refusal::WrongPair,
+            CommandError::Marks(mismatch) => mismatch.refusal(),
+            CommandError::Beside(_) => Refusal::Device,
             CommandError::Device(_) => Refusal::Device,
             CommandError::Memory => Refusal::Memory,
         }
@@ -142,6 +164,16 @@ impl From<FolderError> for CommandError {
 
     fn from(error: FolderError) -> CommandError {
         CommandError::Folder(error)
+    }
+}
+
+impl From<BesideError> for CommandError {
+    ghost use Rattle.syn_command.specs.declared.error.CommandError.TheVariants.{Beside};
+
+    ghost from_gives = { λ error e. e ≡ Beside error };
+
+    fn from(error: BesideError) -> CommandError {
+        CommandError::Beside(error)
     }
 }
 

@@ -11,6 +11,9 @@ use syn_print::PrintError;
 pub enum Failure {
     /// It is refused, with a number.
     Refused(CommandError),
+    /// It kept two servers the same, and has stopped, since they and the archive do not belong
+    /// together.
+    Stopped(CommandError),
     /// The line with this number of a script, counted from 1, says no step. Nothing was done.
     Line(u64),
 }

@@ -62,6 +62,7 @@ mod export;
 mod failure;
 mod image;
 mod import;
+mod mismatch;
 mod outcome;
 mod planning;
 mod preview;
@@ -75,7 +76,7 @@ mod telling;
 
 pub use check::print_image_numbers;
 pub use edit::{make_edit, read_edit};
-pub use error::CommandError;
+pub use error::{BesideError, CommandError};
 pub use export::export_part;
 pub use failure::Failure;
 pub use image::{OpenedImage, format_image, migrate_image, open_image};

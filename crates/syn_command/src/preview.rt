@@ -1,6 +1,6 @@
 //! What a session of two servers would do, where none runs.
 ghost use Rattle.std.specs.Prelude.{◌≡◌, ◌⊎◌, IfErr, IfOk, option_map};
-ghost use Rattle.syn_headline.specs.Side.{ListAt};
+ghost use Rattle.syn_machine.specs.Side.{ListAt};
 ghost use Rattle.syn_message.specs.Replies.{IsLawfulReply, reply_of};
 ghost use Rattle.syn_path.specs.Sides.{which_of};
 ghost use Rattle.syn_model.specs.Plan.{plan};

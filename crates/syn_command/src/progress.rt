@@ -128,11 +128,12 @@ impl<W: Write> SessionWatch for SessionProgress<W> {
     }
 
     /// Counts the bytes of a piece. A `Driver` asks for each piece once.
-    fn heard(&mut self, _from: Side, answered: &ReplyMessage) {
+    fn heard(&mut self, _from: Side, answered: &ReplyMessage) -> bool {
         if let Reply::Piece { bytes, .. } = &answered.reply {
             self.told.fetched = self.told.fetched.saturating_add(bytes.len() as u64);
             self.write_counts();
         }
+        true
     }
 
     /// Tells what was refused and what was recorded since the last call, in the order of the plan.

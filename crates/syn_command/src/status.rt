@@ -2,6 +2,7 @@
 ghost use Rattle.std.specs.Prelude.{◌≡◌};
 ghost use Rattle.syn_command.specs.Status.{code_of};
 
+use crate::failure::Failure;
 use crate::outcome::Outcome;
 
 /// The exit status.
@@ -19,6 +20,9 @@ pub enum Status {
     Conflicts,
     /// The command planned a session, which has something to do.
     Work,
+    /// The command kept two servers the same, and has stopped, since they and the archive do not
+    /// belong together. It has the number of `Work`, which only a plan ends with.
+    Stopped,
 }
 
 impl Status {
@@ -33,6 +37,21 @@ impl Status {
             Status::Incomplete => 3,
             Status::Conflicts => 4,
             Status::Work => 5,
+            Status::Stopped => 5,
+        }
+    }
+}
+
+/// The status of a command that was not done.
+impl From<&Failure> for Status {
+    ghost use Rattle.syn_command.specs.Status.{status_after};
+
+    ghost from_gives = { λ failure status. status ≡ status_after failure.now };
+
+    fn from(failure: &Failure) -> Status {
+        match failure {
+            Failure::Stopped(_) => Status::Stopped,
+            Failure::Refused(_) | Failure::Line(_) => Status::Refused,
         }
     }
 }

@@ -2,12 +2,13 @@
 ghost use Rattle.std.specs.Prelude.{◌≡◌};
 ghost use Rattle.syn_command.specs.Status.{status_of};
 
-use crate::error::CommandError;
+use crate::error::{BesideError, CommandError};
 use crate::failure::Failure;
+use crate::mismatch::{tell_marks_mismatch, tell_mismatch, tell_older_server};
 use crate::outcome::Outcome;
 use crate::status::Status;
 use std::io::{self, Write};
-use syn_cli::{Between, Command, ImageCommand};
+use syn_cli::{Between, Command, FormatCommand, ImageCommand};
 use syn_disk::{DISK_SIZE, OpenError};
 use syn_folder::FolderError;
 use syn_refusal::Refusal;
@@ -27,7 +28,7 @@ pub fn tell_answer<E: Write>(
         Ok(outcome) => Status::from(*outcome),
         Err(failure) => {
             tell_failure(command, failure, errors);
-            Status::Refused
+            Status::from(failure)
         }
     }
 }
@@ -38,7 +39,7 @@ fn tell_failure<E: Write>(command: Option<&Command<'_>>, failure: &Failure, erro
         Failure::Line(number) => {
             let _ = writeln!(errors, "syn: script line {number}");
         }
-        Failure::Refused(error) => {
+        Failure::Refused(error) | Failure::Stopped(error) => {
             refuse(error, errors);
             if let Some(command) = command {
                 explain(command, error, errors);
@@ -61,6 +62,18 @@ fn refuse<E: Write>(error: &CommandError, errors: &mut E) {
             for path in paths {
                 let _ = writeln!(errors, "syn: {path} changed while the folder was read");
             }
+        }
+        CommandError::Apart(mismatch) => tell_mismatch(*mismatch, errors),
+        CommandError::Marks(mismatch) => tell_marks_mismatch(*mismatch, errors),
+        CommandError::OlderServer(side) => tell_older_server(*side, errors),
+        CommandError::Beside(BesideError::System { path, error }) => {
+            let _ = writeln!(errors, "syn: {path}: {error}");
+        }
+        CommandError::Beside(BesideError::Strange { path }) => {
+            let _ = writeln!(
+                errors,
+                "syn: {path} was not written by syn: give it another name"
+            );
         }
         _ => {}
     }
@@ -109,7 +122,7 @@ fn name_subject<E: Write>(command: &Command<'_>, errors: &mut E) -> io::Result<(
 /// What a command on one image is about: its file, and the path that is shown.
 fn name_image<E: Write>(command: &ImageCommand<'_>, errors: &mut E) -> io::Result<()> {
     match command {
-        ImageCommand::Format { file, .. }
+        ImageCommand::Format(FormatCommand { file, .. })
         | ImageCommand::Check { file }
         | ImageCommand::Migrate { file }
         | ImageCommand::Log { file, .. } => write!(errors, "syn: {file}"),

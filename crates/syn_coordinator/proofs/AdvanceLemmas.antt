@@ -4,12 +4,12 @@ use Rattle.std.proofs.Common.{None, refl, sym, ap, ◌∙◌, subst, inr}
 use Rattle.std.specs.List.{slice_get}
 use Rattle.syn_archive.specs.declared.archive.Archive.{Archive}
 use Rattle.syn_disk.specs.declared.disk.Disk.{Ghosts}
-use Rattle.syn_headline.specs.Coordinator.{Advances, Exchange, HasNoRoom, IsDue, IsToKeep, Keeps}
-use Rattle.syn_headline.specs.Coordinator.{Walk, past, making_room, record_for, archive_layout}
-use Rattle.syn_headline.specs.Coordinator as model
-use Rattle.syn_headline.specs.Machine.{Compacts, Up, Halted, Down, Status, has_room}
-use Rattle.syn_headline.specs.Network.{Which, Left, Right, other}
-use Rattle.syn_headline.specs.Planning.{Planned, seen_on, WritesTo}
+use Rattle.syn_machine.specs.Coordinator.{Advances, Exchange, HasNoRoom, IsDue, IsToKeep, Keeps}
+use Rattle.syn_machine.specs.Coordinator.{Walk, past, making_room, record_for, archive_layout}
+use Rattle.syn_machine.specs.Coordinator as model
+use Rattle.syn_machine.specs.Machine.{Compacts, Up, Halted, Down, Status, has_room}
+use Rattle.syn_machine.specs.Network.{Which, Left, Right, other}
+use Rattle.syn_machine.specs.Planning.{Planned, seen_on, WritesTo}
 use Rattle.syn_model.specs.Archive.{Kept, Recorded}
 use Rattle.syn_model.specs.Decision.{Item, ToLeft, ToRight, MarkSame, MarkDir, Conflict}
 use Rattle.syn_refusal.specs.declared.refusal.Refusal.TheVariants as refusal

@@ -5,7 +5,7 @@ use Rattle.syn_archive.specs.declared.archive.Archive.{Archive}
 use Rattle.syn_disk.specs.Arms.{is_stopped}
 use Rattle.syn_disk.specs.Disk.{SameOutcomes}
 use Rattle.syn_disk.specs.declared.disk.Disk.{Ghosts}
-use Rattle.syn_headline.specs.Machine.{after_device}
+use Rattle.syn_machine.specs.Machine.{after_device}
 use Rattle.syn_journal.specs.Journal.{SameReadings}
 use Rattle.syn_model.specs.Archive as model
 use Rattle.syn_journal.specs.Calls.{armed_at}

@@ -8,15 +8,15 @@ use Rattle.std.proofs.lemmas.Bool.Decides.{nat_tests}
 use Rattle.std.proofs.lemmas.List.{length-append}
 use Rattle.std.proofs.lemmas.List.Elements.{All-contains_itself, Contains-append_cases}
 use Rattle.std.proofs.lemmas.List.Elements.{Contains-get_or}
-use Rattle.syn_headline.specs.Coordinator.{AreRising, AsksNext, AsksOnce, MayAsk, MayWait}
-use Rattle.syn_headline.specs.Coordinator.{Outstanding, Running, Waits}
-use Rattle.syn_headline.specs.Coordinator.{asked_count, asking, messages_to, numbered, outstanding}
-use Rattle.syn_headline.specs.Coordinator.{sent_now}
-use Rattle.syn_headline.specs.Network.{IsRepeat, Left, Right, Which, is_side}
-use Rattle.syn_headline.specs.Session.{WasAsked}
-use Rattle.syn_headline.specs.Side.{Begin, Fetch, IsLawfulBody, IsLawfulRequest, ListAt, Replace}
-use Rattle.syn_headline.specs.Side.{Request, Stage}
-use Rattle.syn_headline.proofs.Rising.{numbered-rising}
+use Rattle.syn_machine.specs.Coordinator.{AreRising, AsksNext, AsksOnce, MayAsk, MayWait}
+use Rattle.syn_machine.specs.Coordinator.{Outstanding, Running, Waits}
+use Rattle.syn_machine.specs.Coordinator.{asked_count, asking, messages_to, numbered, outstanding}
+use Rattle.syn_machine.specs.Coordinator.{sent_now}
+use Rattle.syn_machine.specs.Network.{IsRepeat, Left, Right, Which, is_side}
+use Rattle.syn_machine.specs.Session.{WasAsked}
+use Rattle.syn_machine.specs.Side.{Begin, Fetch, IsLawfulBody, IsLawfulRequest, ListAt, Replace}
+use Rattle.syn_machine.specs.Side.{Request, Stage}
+use Rattle.syn_machine.proofs.Rising.{numbered-rising}
 use Rattle.syn_model.specs.Archive.{Archive}
 use Rattle.syn_session.specs.declared.session.Asks.{Asks}
 use Rattle.syn_session.specs.declared.session.Session.{Session}

@@ -7,11 +7,11 @@ use Rattle.std.proofs.lemmas.List.{length-map}
 use Rattle.std.proofs.lemmas.List.Elements.{Contains-push}
 use Rattle.std.proofs.lemmas.Option.{none-some}
 use Rattle.syn_disk.specs.declared.disk.Disk.{Ghosts}
-use Rattle.syn_headline.specs.Coordinator.{Exchange, HasPlan, Running, fault_of, hearing}
-use Rattle.syn_headline.specs.Coordinator.{Outstanding, entries_in, is_not_dir, makes, stays}
-use Rattle.syn_headline.specs.Network.{Left, Right, Which, is_side, other}
-use Rattle.syn_headline.specs.Side.{Begin, Fetch, Listed, ListAt, NotDir, Replace, Request, Stage}
-use Rattle.syn_headline.specs.Side as said
+use Rattle.syn_machine.specs.Coordinator.{Exchange, HasPlan, Running, fault_of, hearing}
+use Rattle.syn_machine.specs.Coordinator.{Outstanding, entries_in, is_not_dir, makes, stays}
+use Rattle.syn_machine.specs.Network.{Left, Right, Which, is_side, other}
+use Rattle.syn_machine.specs.Side.{Begin, Fetch, Listed, ListAt, NotDir, Replace, Request, Stage}
+use Rattle.syn_machine.specs.Side as said
 use Rattle.syn_model.specs.Plan as planning
 use Rattle.syn_propagate.specs.Transfers.{IsForItem, WaitsFor, WaitsForItem, spec_of}
 use Rattle.syn_propagate.specs.declared.transfer_spec.TransferSpec.{TransferSpec}
@@ -54,7 +54,7 @@ use Rattle.syn_session.proofs.WaitingLemmas.{alone_is, asked_has}
 use Rattle.syn_coordinator.proofs.TakeLemmas.{hears_end}
 use Rattle.syn_coordinator.proofs.TriedLemmas.{tries_none}
 use Rattle.syn_model.proofs.BaseLemmas.{and_false, contains_one, contains_none}
-use Rattle.syn_headline.proofs.StagedLemmas.{on_both}
+use Rattle.syn_machine.proofs.NetworkLemmas.{on_both}
 
 -- ---- whatever its plan, a session is heard alike
 

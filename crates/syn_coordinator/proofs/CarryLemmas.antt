@@ -7,14 +7,14 @@ use Rattle.std.proofs.lemmas.List.{append-nil, length-append}
 use Rattle.std.proofs.lemmas.List.Elements.{Contains-push_cases}
 use Rattle.syn_archive.specs.declared.archive.Archive.{Archive}
 use Rattle.syn_disk.specs.declared.disk.Disk.{Ghosts}
-use Rattle.syn_headline.specs.Coordinator.{Advances, AsksOnce, Exchange, HasPlan, MayAsk}
-use Rattle.syn_headline.specs.Coordinator.{Outstanding, Running, Walk, fault_of, hearing, is_last}
-use Rattle.syn_headline.specs.Coordinator.{MayWait, numbered, stands}
-use Rattle.syn_headline.specs.Network.{IsRepeat, Left, Right, Which, other}
-use Rattle.syn_headline.specs.Planning.{Log, Planned, WritesTo, seen_on}
-use Rattle.syn_headline.specs.Session.{IsStagedTo, WasTaken, first_total, is_wanted, record_for}
-use Rattle.syn_headline.specs.Side.{Begin, Fetch, IsLawfulBody, ListAt, Piece, Replace, Request}
-use Rattle.syn_headline.specs.Side.{Stage, Staged}
+use Rattle.syn_machine.specs.Coordinator.{Advances, AsksOnce, Exchange, HasPlan, MayAsk}
+use Rattle.syn_machine.specs.Coordinator.{Outstanding, Running, Walk, fault_of, hearing, is_last}
+use Rattle.syn_machine.specs.Coordinator.{MayWait, numbered, stands}
+use Rattle.syn_machine.specs.Network.{IsRepeat, Left, Right, Which, other}
+use Rattle.syn_machine.specs.Planning.{Log, Planned, WritesTo, seen_on}
+use Rattle.syn_machine.specs.Session.{IsStagedTo, WasTaken, first_total, is_wanted, record_for}
+use Rattle.syn_machine.specs.Side.{Begin, Fetch, IsLawfulBody, ListAt, Piece, Replace, Request}
+use Rattle.syn_machine.specs.Side.{Stage, Staged}
 use Rattle.syn_message.specs.Requests.{request_of}
 use Rattle.syn_path.specs.Sides.{which_of}
 use Rattle.syn_path.specs.declared.side.Side.{Side}
@@ -48,7 +48,7 @@ use Rattle.syn_coordinator.specs.inner.Taking as taking
 use Rattle.syn_coordinator.specs.inner.Walking.{ComesToAsk, Ends, HasKept, ends, goes_down, plan_at}
 use Rattle.syn_coordinator.specs.inner.Walking.{walk_at}
 use Rattle.syn_session.proofs.WaitingLemmas.{numbered_requests}
-use Rattle.syn_headline.proofs.Heard.{numbered-length}
+use Rattle.syn_machine.proofs.Heard.{numbered-length}
 use Rattle.syn_session.proofs.CarryingLemmas.{source_other, marks_of}
 use Rattle.syn_model.proofs.BaseLemmas.{contains_none}
 

@@ -4,11 +4,11 @@ use Rattle.syn_archive.specs.Machines.{Starts}
 use Rattle.syn_archive.specs.declared.archive.Archive.{Archive}
 use Rattle.syn_disk.specs.Arms.{Arms as DiskArms}
 use Rattle.syn_disk.specs.declared.disk.Disk.{Ghosts}
-use Rattle.syn_headline.specs.Coordinator.{CoordinatorMachine, archive_layout, coordinator_kind}
-use Rattle.syn_headline.specs.Coordinator.{running_after, with_archive}
-use Rattle.syn_headline.specs.MachineSteps.{no_memory_to_open, open_fails, with_device}
-use Rattle.syn_headline.specs.MachineSteps.{opens as opens_down}
-use Rattle.syn_headline.specs.Machine.{Down, Halted, Opens, Status, Up}
+use Rattle.syn_machine.specs.Coordinator.{CoordinatorMachine, archive_layout, coordinator_kind}
+use Rattle.syn_machine.specs.Coordinator.{running_after, with_archive}
+use Rattle.syn_machine.specs.MachineSteps.{no_memory_to_open, open_fails, with_device}
+use Rattle.syn_machine.specs.MachineSteps.{opens as opens_down}
+use Rattle.syn_machine.specs.Machine.{Down, Halted, Opens, Status, Up}
 use Rattle.syn_archive.specs.Keepings.{of_archive}
 use Rattle.syn_journal.specs.Machines.{device_failed, without_memory}
 use Rattle.syn_journal.specs.Machines as journal

@@ -16,10 +16,10 @@ use Rattle.syn_archive.specs.declared.error.ArchiveError.{ArchiveError}
 use Rattle.syn_archive.specs.declared.error.ArchiveError.TheVariants as error
 use Rattle.syn_disk.specs.Arms.{is_stopped}
 use Rattle.syn_disk.specs.declared.disk.Disk.{Ghosts}
-use Rattle.syn_headline.specs.Coordinator.{archive_layout}
-use Rattle.syn_headline.specs.Machine.{Up, Halted, Status, Compacts, compacted, not_compacted}
-use Rattle.syn_headline.specs.Machine.{has_room}
-use Rattle.syn_headline.specs.Session.{is_recorded}
+use Rattle.syn_machine.specs.Coordinator.{archive_layout}
+use Rattle.syn_machine.specs.Machine.{Up, Halted, Status, Compacts, compacted, not_compacted}
+use Rattle.syn_machine.specs.Machine.{has_room}
+use Rattle.syn_machine.specs.Session.{is_recorded}
 use Rattle.syn_model.specs.Archive.{Kept, CanKeep, IsLawfulKept}
 use Rattle.syn_model.specs.Archive.{kept_refusal}
 use Rattle.syn_model.specs.Limits.{greatest}

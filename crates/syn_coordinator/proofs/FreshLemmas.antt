@@ -4,10 +4,10 @@ use Rattle.std.proofs.Common.{Some, None, refl, sym, ap, ◌∙◌, arith}
 use Rattle.std.specs.List.{slice_get, filter_map, cons_option}
 use Rattle.std.specs.Ordering.{eq_by_cmp}
 use Rattle.std.specs.Prelude.{Contains}
-use Rattle.syn_headline.specs.Planning.{Planned}
-use Rattle.syn_headline.specs.Session.{Exchange, piece_total}
-use Rattle.syn_headline.specs.Side.{Request, Begin, ListAt, Fetch, Stage, Replace, Reply, Begun}
-use Rattle.syn_headline.specs.Side.{Listed, NotDir, Piece, Staged, Done, Refused}
+use Rattle.syn_machine.specs.Planning.{Planned}
+use Rattle.syn_machine.specs.Session.{Exchange, piece_total}
+use Rattle.syn_machine.specs.Side.{Request, Begin, ListAt, Fetch, Stage, Replace, Reply, Begun}
+use Rattle.syn_machine.specs.Side.{Listed, NotDir, Piece, Staged, Done, Refused}
 use Rattle.syn_model.specs.Decision.{path_of}
 use Rattle.syn_model.specs.Path.{Path, path_cmp}
 use Rattle.syn_model.proofs.PathLemmas.{same_path}

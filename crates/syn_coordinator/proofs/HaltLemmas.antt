@@ -12,8 +12,8 @@ use Rattle.syn_coordinator.specs.inner.Advancing.{BreaksAs}
 use Rattle.syn_coordinator.specs.inner.Taking.{TakesEnd, at_once, ends, goes_down}
 use Rattle.syn_disk.specs.Arms.{is_stopped}
 use Rattle.syn_disk.specs.declared.disk.Disk.{Ghosts}
-use Rattle.syn_headline.specs.Coordinator.{Exchange, Running}
-use Rattle.syn_headline.specs.Machine.{Up}
+use Rattle.syn_machine.specs.Coordinator.{Exchange, Running}
+use Rattle.syn_machine.specs.Machine.{Up}
 use Rattle.syn_coordinator.specs.Machines.{IsMachine, Journal}
 use Rattle.syn_coordinator.specs.Steps.{KeepsSo, moves_down, moves_on}
 use Rattle.syn_coordinator.proofs.DueLemmas.{not_halted, when_halted, when_up}

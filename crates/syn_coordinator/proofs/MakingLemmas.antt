@@ -2,9 +2,9 @@
 use Rattle.std.proofs.Common.{◌≡◌, ℕ, List, [], ◌∷◌, map, get_or, refl, ap, ◌∙◌, Option}
 use Rattle.std.specs.List.{All}
 use Rattle.std.proofs.lemmas.List.Elements.{All-map}
-use Rattle.syn_headline.specs.Network.{Which, Left, Right}
-use Rattle.syn_headline.specs.Planning.{SeesBoth, SessionPlan}
-use Rattle.syn_headline.specs.Session.{BothBegun, MakesPlan, Running}
+use Rattle.syn_machine.specs.Network.{Which, Left, Right}
+use Rattle.syn_machine.specs.Planning.{SeesBoth, SessionPlan}
+use Rattle.syn_machine.specs.Session.{BothBegun, MakesPlan, Running}
 use Rattle.syn_model.specs.Archive.{Archive}
 use Rattle.syn_model.specs.Decision.{Item}
 use Rattle.syn_model.specs.Dirty.{IsScanBy, Scan}

@@ -6,9 +6,9 @@ use Rattle.std.specs.Prelude.{MatchResult, Result, Ok, Err}
 use Rattle.std.proofs.lemmas.Bool.{false≢true}
 use Rattle.std.specs.List.{slice_get}
 use Rattle.syn_disk.specs.declared.disk.Disk.{Ghosts}
-use Rattle.syn_headline.specs.Coordinator.{Exchange, IsFor, fault_of, is_last}
-use Rattle.syn_headline.specs.Planning.{Planned}
-use Rattle.syn_headline.specs.Side as model
+use Rattle.syn_machine.specs.Coordinator.{Exchange, IsFor, fault_of, is_last}
+use Rattle.syn_machine.specs.Planning.{Planned}
+use Rattle.syn_machine.specs.Side as model
 use Rattle.syn_model.specs.Refusal.{Refusal as Why}
 use Rattle.syn_scan.specs.Found.{Found}
 use Rattle.syn_coordinator.specs.Machines.{IsMachine, Journal}

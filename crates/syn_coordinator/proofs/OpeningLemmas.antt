@@ -9,8 +9,8 @@ use Rattle.syn_archive.specs.Archive.{generation_shown, left_shown}
 use Rattle.syn_archive.specs.Disks.{kept_size}
 use Rattle.syn_archive.specs.declared.archive.Archive.{Archive}
 use Rattle.syn_disk.specs.declared.disk.Disk.{Ghosts}
-use Rattle.syn_headline.specs.Coordinator.{archive_layout}
-use Rattle.syn_headline.specs.Machine.{IsAsLeft, Opens, opened, recovered, room_after}
+use Rattle.syn_machine.specs.Coordinator.{archive_layout}
+use Rattle.syn_machine.specs.Machine.{IsAsLeft, Opens, opened, recovered, room_after}
 use Rattle.syn_model.specs.Archive.{CanKeep, Kept, Recorded, RecordedDir, Session}
 use Rattle.std.specs.Int.{to_be_bytes, w64}
 use Rattle.syn_model.specs.MarkSpelling.{mark_spelling}

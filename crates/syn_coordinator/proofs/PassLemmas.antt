@@ -8,9 +8,9 @@ use Rattle.std.proofs.lemmas.List.{append-nil, append_assoc}
 use Rattle.syn_archive.specs.Archive.{shown}
 use Rattle.syn_archive.specs.declared.archive.Archive.{Archive}
 use Rattle.syn_disk.specs.declared.disk.Disk.{Ghosts}
-use Rattle.syn_headline.specs.Coordinator.{Exchange, settled, stands}
-use Rattle.syn_headline.specs.Planning.{Planned}
-use Rattle.syn_headline.specs.Session.{record_for}
+use Rattle.syn_machine.specs.Coordinator.{Exchange, settled, stands}
+use Rattle.syn_machine.specs.Planning.{Planned}
+use Rattle.syn_machine.specs.Session.{record_for}
 use Rattle.syn_model.specs.Archive.{kept_refusal, Kept}
 use Rattle.syn_propagate.specs.Transfers.{spec_of}
 use Rattle.syn_refusal.specs.Refusals.{cause_of}

@@ -19,9 +19,9 @@ use Rattle.syn_archive.specs.declared.error.ArchiveError.{ArchiveError}
 use Rattle.syn_archive.specs.declared.error.ArchiveError.TheVariants as error
 use Rattle.syn_archive.proofs.WriteLemmas.{some_bytes}
 use Rattle.syn_disk.specs.declared.disk.Disk.{Ghosts}
-use Rattle.syn_headline.specs.Coordinator.{archive_layout}
-use Rattle.syn_headline.specs.Machine.{has_room}
-use Rattle.syn_headline.specs.Session.{is_recorded}
+use Rattle.syn_machine.specs.Coordinator.{archive_layout}
+use Rattle.syn_machine.specs.Machine.{has_room}
+use Rattle.syn_machine.specs.Session.{is_recorded}
 use Rattle.syn_journal.specs.Endings.{CountsFailures, ended}
 use Rattle.syn_model.specs.Archive as model
 use Rattle.syn_model.specs.Archive.{IsLawfulKept, Kept, Recorded, RecordedDir, Session}

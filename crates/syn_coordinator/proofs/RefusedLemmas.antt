@@ -11,12 +11,12 @@ use Rattle.syn_archive.specs.declared.error.ArchiveError.{ArchiveError}
 use Rattle.syn_archive.specs.declared.error.ArchiveError.TheVariants as error
 use Rattle.syn_disk.specs.Arms.{is_stopped}
 use Rattle.syn_disk.specs.declared.disk.Disk.{Ghosts}
-use Rattle.syn_headline.specs.Coordinator.{CoordinatorMachine, Running, archive_layout}
-use Rattle.syn_headline.specs.Coordinator.{coordinator_kind, no_call, running_after, with_archive}
-use Rattle.syn_headline.specs.Machine.{Up, Halted, Down, Status, Arms, Meets, Compacts, Opens}
-use Rattle.syn_headline.specs.Machine.{compacted, not_compacted, opened, recovered}
-use Rattle.syn_headline.specs.MachineSteps.{Checkpoints, checkpoints, Reopens, is_halted, reopens}
-use Rattle.syn_headline.specs.MachineSteps.{reopen_is_cut, with_device}
+use Rattle.syn_machine.specs.Coordinator.{CoordinatorMachine, Running, archive_layout}
+use Rattle.syn_machine.specs.Coordinator.{coordinator_kind, no_call, running_after, with_archive}
+use Rattle.syn_machine.specs.Machine.{Up, Halted, Down, Status, Arms, Meets, Compacts, Opens}
+use Rattle.syn_machine.specs.Machine.{compacted, not_compacted, opened, recovered}
+use Rattle.syn_machine.specs.MachineSteps.{Checkpoints, checkpoints, Reopens, is_halted, reopens}
+use Rattle.syn_machine.specs.MachineSteps.{reopen_is_cut, with_device}
 use Rattle.syn_model.specs.Archive as model
 use Rattle.syn_model.specs.Limits.{greatest}
 use Rattle.syn_model.specs.Refusal.{Refusal, first_cause}

@@ -8,9 +8,9 @@ use Rattle.syn_archive.specs.declared.archive.Archive.{Archive}
 use Rattle.syn_archive.specs.declared.error.ArchiveError.{ArchiveError}
 use Rattle.syn_archive.specs.declared.error.ArchiveError.TheVariants as error
 use Rattle.syn_disk.specs.declared.disk.Disk.{Ghosts}
-use Rattle.syn_headline.specs.Coordinator.{archive_layout}
-use Rattle.syn_headline.specs.Machine.{Up, Halted, Down, Status, Arms, Meets, Opens, unarmed}
-use Rattle.syn_headline.specs.Machine.{after_device, IsBefore, after_calls, all_made}
+use Rattle.syn_machine.specs.Coordinator.{archive_layout}
+use Rattle.syn_machine.specs.Machine.{Up, Halted, Down, Status, Arms, Meets, Opens, unarmed}
+use Rattle.syn_machine.specs.Machine.{after_device, IsBefore, after_calls, all_made}
 use Rattle.syn_journal.specs.Layout.{Value, meaning, Fault}
 use Rattle.syn_model.specs.Path.{Bytes}
 use Rattle.syn_model.specs.Archive as model

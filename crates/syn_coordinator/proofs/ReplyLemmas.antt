@@ -4,13 +4,13 @@ use Rattle.std.proofs.Common.{Option, Some, None, refl, sym, ap, ap₂, ◌∙�
 use Rattle.std.specs.Prelude.{◌&&◌, is_some, unwrap_or}
 use Rattle.std.proofs.lemmas.Bool.{false≢true}
 use Rattle.syn_disk.specs.declared.disk.Disk.{Ghosts}
-use Rattle.syn_headline.specs.Coordinator.{AsksNext, CoordinatorMachine, CoordinatorTakes, EndsFor}
-use Rattle.syn_headline.specs.Coordinator.{Exchange, IsExpected, Running, asked_in}
-use Rattle.syn_headline.specs.Coordinator.{asking, after_taking, ignores, report_of}
-use Rattle.syn_headline.specs.Coordinator.{sent_now, takes}
-use Rattle.syn_headline.specs.Coordinator as model
-use Rattle.syn_headline.specs.Network.{Left, Message, Right, Which}
-use Rattle.syn_headline.specs.Side.{Reply, Request}
+use Rattle.syn_machine.specs.Coordinator.{AsksNext, CoordinatorMachine, CoordinatorTakes, EndsFor}
+use Rattle.syn_machine.specs.Coordinator.{Exchange, IsExpected, Running, asked_in}
+use Rattle.syn_machine.specs.Coordinator.{asking, after_taking, ignores, report_of}
+use Rattle.syn_machine.specs.Coordinator.{sent_now, takes}
+use Rattle.syn_machine.specs.Coordinator as model
+use Rattle.syn_machine.specs.Network.{Left, Message, Right, Which}
+use Rattle.syn_machine.specs.Side.{Reply, Request}
 use Rattle.syn_model.specs.Archive.{Kept}
 use Rattle.syn_model.specs.Refusal.{Memory}
 use Rattle.syn_refusal.specs.Refusals.{cause_of}
@@ -39,7 +39,7 @@ use Rattle.syn_coordinator.proofs.StartLemmas.{no_session}
 use Rattle.syn_coordinator.proofs.TickLemmas.{run_alike, session_of}
 use Rattle.syn_coordinator.proofs.TriedLemmas.{tries_none}
 use Rattle.std.proofs.lemmas.Option.{none-some}
-use Rattle.syn_headline.proofs.StagedLemmas.{on_both}
+use Rattle.syn_machine.proofs.NetworkLemmas.{on_both}
 
 -- what a session tells stays with its number, its scans and its plan
 pub tells_same : (old new : Session) (running : Running) → new.number ≡ old.number →

@@ -9,9 +9,9 @@ use Rattle.syn_archive.specs.Archive.{disk_of}
 use Rattle.syn_archive.specs.declared.archive.Archive.{Archive}
 use Rattle.syn_disk.specs.Arms.{is_stopped}
 use Rattle.syn_disk.specs.declared.disk.Disk.{Ghosts}
-use Rattle.syn_headline.specs.Coordinator.{Exchange, IsDue, stands, no_memory}
-use Rattle.syn_headline.specs.Machine.{Up}
-use Rattle.syn_headline.specs.Planning.{Planned}
+use Rattle.syn_machine.specs.Coordinator.{Exchange, IsDue, stands, no_memory}
+use Rattle.syn_machine.specs.Machine.{Up}
+use Rattle.syn_machine.specs.Planning.{Planned}
 use Rattle.syn_model.specs.Archive as model
 use Rattle.syn_model.specs.Archive.{Kept}
 use Rattle.syn_model.specs.Plan.{PlanIsOrderly}

@@ -6,11 +6,11 @@ use Rattle.std.proofs.lemmas.Bool.{false≢true}
 use Rattle.std.proofs.lemmas.Option.{none-some}
 use Rattle.std.specs.Prelude.{is_some, ◌&&◌}
 use Rattle.syn_disk.specs.declared.disk.Disk.{Ghosts}
-use Rattle.syn_headline.specs.Coordinator.{CoordinatorMachine, CoordinatorStarts, Keeps, starts}
-use Rattle.syn_headline.specs.Coordinator.{start_breaks, archive_layout, new_session, begins}
-use Rattle.syn_headline.specs.Coordinator.{sent_now}
-use Rattle.syn_headline.specs.Machine.{Up, Halted, Down, Status, has_room}
-use Rattle.syn_headline.specs.MachineSteps.{is_halted}
+use Rattle.syn_machine.specs.Coordinator.{CoordinatorMachine, CoordinatorStarts, Keeps, starts}
+use Rattle.syn_machine.specs.Coordinator.{start_breaks, archive_layout, new_session, begins}
+use Rattle.syn_machine.specs.Coordinator.{sent_now}
+use Rattle.syn_machine.specs.Machine.{Up, Halted, Down, Status, has_room}
+use Rattle.syn_machine.specs.MachineSteps.{is_halted}
 use Rattle.syn_model.specs.Archive as model
 use Rattle.syn_model.specs.Archive.{Session}
 use Rattle.syn_model.specs.Limits.{greatest}

@@ -3,8 +3,8 @@ use Rattle.std.proofs.Common.{◌≡◌, ℕ, true, List, [], Option, Some, None
 use Rattle.std.proofs.lemmas.List.{append-nil}
 use Rattle.syn_archive.specs.declared.archive.Archive.{Archive}
 use Rattle.syn_disk.specs.declared.disk.Disk.{Ghosts}
-use Rattle.syn_headline.specs.Coordinator.{EndsFor, Exchange, Running, fault_of, hearing, is_last}
-use Rattle.syn_headline.specs.Coordinator.{no_memory, stands, stays}
+use Rattle.syn_machine.specs.Coordinator.{EndsFor, Exchange, Running, fault_of, hearing, is_last}
+use Rattle.syn_machine.specs.Coordinator.{no_memory, stands, stays}
 use Rattle.syn_model.specs.Archive.{Kept}
 use Rattle.syn_model.specs.Archive as model
 use Rattle.syn_refusal.specs.declared.refusal.Refusal.{Refusal}

@@ -4,10 +4,10 @@ use Rattle.std.proofs.Common.{[], Option, Some, None, refl, sym, ap, ap₂, ◌�
 use Rattle.std.proofs.Common.{nat_le}
 use Rattle.std.specs.Prelude.{is_some, ◌&&◌}
 use Rattle.syn_disk.specs.declared.disk.Disk.{Ghosts}
-use Rattle.syn_headline.specs.Coordinator.{CoordinatorMachine, CoordinatorTicks, no_session}
-use Rattle.syn_headline.specs.Coordinator.{resends, gives_up, Running, is_resent}
-use Rattle.syn_headline.specs.Coordinator.{report_of, most_resends}
-use Rattle.syn_headline.specs.Network.{Left, Right, Message}
+use Rattle.syn_machine.specs.Coordinator.{CoordinatorMachine, CoordinatorTicks, no_session}
+use Rattle.syn_machine.specs.Coordinator.{resends, gives_up, Running, is_resent}
+use Rattle.syn_machine.specs.Coordinator.{report_of, most_resends}
+use Rattle.syn_machine.specs.Network.{Left, Right, Message}
 use Rattle.syn_model.specs.Refusal.{Refusal, NoAnswer, Memory}
 use Rattle.syn_coordinator.specs.Coordinators.{Does, Stands, ended_in, in_report, report_shown}
 use Rattle.syn_coordinator.specs.Coordinators.{runs, goes_on}

@@ -5,12 +5,12 @@ use Rattle.std.proofs.lemmas.Option.{none-some}
 use Rattle.syn_archive.specs.declared.archive.Archive.{Archive}
 use Rattle.syn_disk.specs.declared.disk.Disk.{Ghosts}
 use Rattle.syn_journal.specs.Journal.{gate_of}
-use Rattle.syn_headline.specs.Coordinator.{Keeps, archive_layout, cut_after, writes}
+use Rattle.syn_machine.specs.Coordinator.{Keeps, archive_layout, cut_after, writes}
 use Rattle.std.proofs.lemmas.Bool.Decides.{nat_tests}
 use Rattle.syn_archive.specs.Archive.{left_shown, room_shown}
 use Rattle.syn_archive.specs.Disks.{kept_size}
-use Rattle.syn_headline.specs.Machine.{Arms, Compacts, Status, Up, after_device}
-use Rattle.syn_headline.specs.Machine.{compacted, has_room, idle, not_compacted, unwritten, written}
+use Rattle.syn_machine.specs.Machine.{Arms, Compacts, Status, Up, after_device}
+use Rattle.syn_machine.specs.Machine.{compacted, has_room, idle, not_compacted, unwritten, written}
 use Rattle.syn_model.specs.Archive.{Kept}
 use Rattle.syn_coordinator.specs.Machines.{Journal}
 use Rattle.syn_coordinator.specs.Tries.{HoldsTried, IsShown, Tries}

@@ -6,12 +6,12 @@ use Rattle.std.specs.Option.{option_map_or}
 use Rattle.std.proofs.lemmas.List.{append-nil, append_assoc}
 use Rattle.syn_archive.specs.declared.archive.Archive.{Archive}
 use Rattle.syn_disk.specs.declared.disk.Disk.{Ghosts}
-use Rattle.syn_headline.specs.Coordinator.{Advances, Exchange, EndsFor, IsFor, record_for}
-use Rattle.syn_headline.specs.Coordinator as model
-use Rattle.syn_headline.specs.Machine.{Up}
-use Rattle.syn_headline.specs.Planning.{Planned}
-use Rattle.syn_headline.specs.Report.{is_carrying}
-use Rattle.syn_headline.specs.Side.{Refused}
+use Rattle.syn_machine.specs.Coordinator.{Advances, Exchange, EndsFor, IsFor, record_for}
+use Rattle.syn_machine.specs.Coordinator as model
+use Rattle.syn_machine.specs.Machine.{Up}
+use Rattle.syn_machine.specs.Planning.{Planned}
+use Rattle.syn_machine.specs.Report.{is_carrying}
+use Rattle.syn_machine.specs.Side.{Refused}
 use Rattle.syn_model.specs.Archive.{Kept, kept_refusal}
 use Rattle.syn_model.specs.Decision.{Conflict}
 use Rattle.syn_model.specs.Path.{Path}

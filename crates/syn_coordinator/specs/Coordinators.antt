@@ -9,12 +9,12 @@ use Rattle.syn_coordinator.specs.PlanRunners as of
 use Rattle.syn_coordinator.specs.declared.coordinator.Coordinator.{Coordinator}
 use Rattle.syn_disk.specs.Arms.{is_stopped}
 use Rattle.syn_disk.specs.declared.disk.Disk.{Ghosts}
-use Rattle.syn_headline.specs.Coordinator.{Call, CoordinatorMachine, Running, coordinator_kind}
-use Rattle.syn_headline.specs.Coordinator.{outstanding, report_of, start_causes}
-use Rattle.syn_headline.specs.Machine.{Arms, Down, Halted, Status, Up, after_device}
-use Rattle.syn_headline.specs.MachineSteps.{Reopens, causes_at, full_generation}
-use Rattle.syn_headline.specs.Network.{Message, Which}
-use Rattle.syn_headline.specs.Report.{Report}
+use Rattle.syn_machine.specs.Coordinator.{Call, CoordinatorMachine, Running, coordinator_kind}
+use Rattle.syn_machine.specs.Coordinator.{outstanding, report_of, start_causes}
+use Rattle.syn_machine.specs.Machine.{Arms, Down, Halted, Status, Up, after_device}
+use Rattle.syn_machine.specs.MachineSteps.{Reopens, causes_at, full_generation}
+use Rattle.syn_machine.specs.Network.{Message, Which}
+use Rattle.syn_machine.specs.Report.{Report}
 use Rattle.syn_coordinator.specs.Machines.{IsMachine, LeavesMachine}
 use Rattle.syn_coordinator.specs.Tries.{Tries}
 use Rattle.syn_coordinator.specs.declared.tried.TriedRecord.{TriedRecord}

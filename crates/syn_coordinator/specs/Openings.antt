@@ -4,8 +4,8 @@ use Rattle.syn_coordinator.specs.Coordinators.{Stands}
 use Rattle.syn_coordinator.specs.declared.coordinator.Coordinator.{Coordinator}
 use Rattle.syn_disk.specs.Arms.{Arms as DiskArms}
 use Rattle.syn_disk.specs.declared.disk.Disk.{Ghosts}
-use Rattle.syn_headline.specs.Coordinator.{CoordinatorMachine, coordinator_kind, no_call}
-use Rattle.syn_headline.specs.MachineSteps.{OpensDown}
+use Rattle.syn_machine.specs.Coordinator.{CoordinatorMachine, coordinator_kind, no_call}
+use Rattle.syn_machine.specs.MachineSteps.{OpensDown}
 use Rattle.syn_coordinator.specs.Tries.{Tries}
 use Rattle.syn_archive.specs.Keepings.{of_archive}
 use Rattle.syn_journal.specs.Machines.{Rests}

@@ -3,8 +3,8 @@ use Rattle.std.specs.Prelude.{◌≡◌, ◌⊎◌, ◌<◌, ℕ, Bool, true, fa
 use Rattle.syn_archive.specs.Archive.{SameMemory, journal_of}
 use Rattle.syn_archive.specs.declared.archive.Archive.{Archive}
 use Rattle.syn_disk.specs.declared.disk.Disk.{Ghosts}
-use Rattle.syn_headline.specs.Coordinator.{archive_layout}
-use Rattle.syn_headline.specs.Machine.{Compacts, Halted, Up, has_room}
+use Rattle.syn_machine.specs.Coordinator.{archive_layout}
+use Rattle.syn_machine.specs.Machine.{Compacts, Halted, Up, has_room}
 use Rattle.syn_coordinator.specs.Machines.{IsMachine, Journal}
 use Rattle.syn_coordinator.specs.Steps.{CompactsSo, KeepsSo}
 use Rattle.syn_coordinator.specs.Tries.{HoldsTried}

@@ -6,7 +6,7 @@ use Rattle.syn_archive.specs.Disks.{kept_size}
 pub use Rattle.syn_archive.specs.Machines.{IsShown}
 use Rattle.syn_archive.specs.declared.archive.Archive.{Archive}
 use Rattle.syn_disk.specs.declared.disk.Disk.{Ghosts}
-use Rattle.syn_headline.specs.Machine.{Up}
+use Rattle.syn_machine.specs.Machine.{Up}
 use Rattle.syn_coordinator.specs.Machines.{Journal}
 use Rattle.syn_coordinator.specs.declared.tried.TriedRecord.{TriedRecord}
 use Rattle.syn_model.specs.Archive.{Kept}

@@ -2,7 +2,7 @@
 ghost use Rattle.std.specs.Prelude.{◌≡◌, ℕ, IfErr, MatchResult, option_map};
 ghost use Rattle.syn_archive.specs.Archive.{SameMemory, disk_of, pair_of};
 ghost use Rattle.syn_disk.specs.Arms.{is_stopped};
-ghost use Rattle.syn_headline.specs.Machine.{Up};
+ghost use Rattle.syn_machine.specs.Machine.{Up};
 ghost use Rattle.syn_coordinator.specs.RecordOutcome.{IsAsItWas, IsReady, Settles, CountsFailures};
 ghost use Rattle.syn_coordinator.specs.RecordOutcome.{CountsFailuresOrStops};
 ghost use Rattle.syn_coordinator.specs.Machines.{IsMachine, Journal};

@@ -10,7 +10,7 @@ ghost use Rattle.syn_coordinator.specs.Tries.{HoldsTried, found_in};
 ghost use Rattle.syn_coordinator.specs.declared.tried.TriedRecord.{TriedRecord};
 ghost use Rattle.syn_coordinator.specs.inner.Advancing.{kept_by};
 ghost use Rattle.syn_disk.specs.Arms.{is_stopped};
-ghost use Rattle.syn_headline.specs.Machine.{Halted, Up};
+ghost use Rattle.syn_machine.specs.Machine.{Halted, Up};
 ghost use Rattle.syn_image.specs.Archives.{kept_for, kept_of};
 ghost use Rattle.syn_model.specs.Archive.{Session as Begun};
 ghost use Rattle.syn_coordinator.specs.Refusals.{CountsFailures};

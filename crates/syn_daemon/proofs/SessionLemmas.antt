@@ -1,10 +1,9 @@
 -- A coordinator that nobody called, and refusals of one that was driven.
 use Rattle.std.proofs.Common.{ℕ, [], false, refl, inl, Option}
 use Rattle.std.specs.Prelude.{IfErr, None, Result, Ok, Err}
-use Rattle.syn_daemon.specs.Sessions.{DrivesSession, RefusesRun, RefusesSync, drive_refused}
-use Rattle.syn_daemon.specs.Sessions.{run_refused}
+use Rattle.syn_daemon.specs.Sessions.{DrivesSession, RefusesRun, run_refused}
 use Rattle.syn_disk.specs.declared.disk.Disk.{Ghosts}
-use Rattle.syn_headline.specs.Coordinator.{CoordinatorMachine}
+use Rattle.syn_machine.specs.Coordinator.{CoordinatorMachine}
 use Rattle.syn_refusal.specs.Refusals.{cause_of}
 use Rattle.syn_refusal.specs.declared.refusal.Refusal.{Refusal as Answer}
 use Rattle.syn_coordinator.specs.Coordinators.{Stands}
@@ -39,12 +38,6 @@ module _ {D : Type 0} {disk : Ghosts D} where
       }
 
   module _ (old new : Coordinator D disk) (pair : ℕ) (machine : CoordinatorMachine) where
-    pub sync_driven : (result : Result Unit Answer)
-        → IfErr result (λ why. Refuses old new pair machine (cause_of why))
-        → IfErr result (λ why. RefusesSync old new pair machine (cause_of why))
-    sync_driven (Ok x) refused = tt
-    sync_driven (Err why) refused = drive_refused (cause_of why) refused
-
     pub run_driven : (result : Result Unit Answer)
         → IfErr result (λ why. Refuses old new pair machine (cause_of why))
         → IfErr result (λ why. RefusesRun old new pair machine (cause_of why))

@@ -1,16 +1,27 @@
 -- What a session over two connections was to its coordinator.
-use Rattle.std.specs.Prelude.{◌≡◌, ℕ, OnOk, Result, Option}
+use Rattle.std.specs.FinMap.{len}
+use Rattle.std.specs.Prelude.{◌≡◌, ℕ, OnOk, Result, Option, nat_lt}
+use Rattle.syn_archive.specs.Archive.{marks_shown, pair_of, session_shown}
+use Rattle.syn_archive.specs.declared.archive.Archive.{Archive}
 use Rattle.syn_disk.specs.declared.disk.Disk.{Ghosts}
-use Rattle.syn_headline.specs.Coordinator.{CoordinatorMachine}
-use Rattle.syn_model.specs.Refusal.{Busy, Device, Memory, Refusal}
+use Rattle.syn_machine.specs.Coordinator.{CoordinatorMachine}
+use Rattle.syn_model.specs.Refusal.{Device, Memory, Refusal}
 use Rattle.syn_refusal.specs.declared.refusal.Refusal.{Refusal as Answer}
 use Rattle.syn_coordinator.specs.declared.coordinator.Coordinator.{Coordinator}
+use Rattle.syn_pair.specs.Belongs.{archive_in}
+use Rattle.syn_pair.specs.declared.check.Belonging.{Belonging}
 use Rattle.syn_sync.specs.Drivers.{ConnectionStates, Outlets}
 use Rattle.syn_sync.specs.Refusals.{Refuses}
 use Rattle.syn_sync.specs.Runs.{Begins, Drives}
 use Rattle.syn_model.specs.Which.{Which}
 
 module _ {D : Type 0} {disk : Ghosts D} where
+  -- the sides were found to belong to this archive, as it is
+  pub record BelongTo (archive : Archive D disk) (belonging : Belonging) : Type 0 where
+    pub pair : (archive_in belonging).pair ≡ pair_of archive
+    pub session : (archive_in belonging).session ≡ session_shown archive
+    pub marks : (archive_in belonging).has_marks ≡ nat_lt 1 (len (marks_shown archive))
+
   -- It was driven over some connections; an Ok says that it was started, with the
   -- preference
   pub record DrivesSession (preference : Option Which) (new : Coordinator D disk) (pair : ℕ)
@@ -21,15 +32,6 @@ module _ {D : Type 0} {disk : Ghosts D} where
     pub to : Outlets
     pub drives : Drives new pair machine states heard from to
     pub begins : OnOk result (Begins preference drives.acts)
-
-  -- A side was not reached, or both are one server, and the coordinator stays as it was; or the
-  -- driver refuses it so
-  pub data RefusesSync (old new : Coordinator D disk) (pair : ℕ) (machine : CoordinatorMachine)
-      : Refusal → Type 0 where
-    unreached : new ≡ old → RefusesSync old new pair machine Device
-    same_server : new ≡ old → RefusesSync old new pair machine Busy
-    drive_refused : (why : Refusal) → Refuses old new pair machine why →
-        RefusesSync old new pair machine why
 
   -- A port was not had, or a server's thread, and the coordinator stays as it was; or the driver
   -- refuses it so

@@ -10,8 +10,9 @@ use std::sync::Wait;
 use std::time::Clock;
 use syn_archive::Archive;
 use syn_disk::Disk;
-use syn_folder::{EditedFolder, FolderError, Glimpse, SystemFolder, take_glimpse};
+use syn_folder::{EditedFolder, FolderError, Glimpse, Kept, SystemFolder, take_glimpse};
 use syn_lock::Pass;
+use syn_pair::{LAST_PLACE, SideStatus};
 use syn_path::Side;
 use syn_recon::Item;
 use syn_reconcile::{ReconcileError, Report, Settlement, WhenEmpty, reconcile_shared};
@@ -23,18 +24,31 @@ use syn_shared::{SharedReplica, UpkeepStep, keep_up};
 /// what was written then.
 const LOOKS: u8 = 2;
 
+/// Keeps what the replica says of itself beside the marks of a folder, so that they are used beside
+/// no other replica and no older copy of it.
+pub trait KeepsReplica {
+    /// Keeps it, whole and durably.
+    ///
+    /// Refused 9 where it cannot be kept, and 11 where memory is refused.
+    fn keep_replica(&self, known: SideStatus) -> Result<(), Refusal>;
+}
+
 /// A folder that a server keeps the same as its replica.
 #[derive(Drop)]
-pub struct FolderSide<'a, F, A: Disk> {
+pub struct FolderSide<'a, F, A: Disk, K> {
     pub files: &'a F,
     /// The name of the folder, which may be missing.
     pub root: &'a str,
     /// What folder and replica last agreed on.
     pub archive: Archive<A>,
+    /// Where it is kept which replica that was.
+    pub keeper: K,
     /// Whose edits the folder's changes are.
     pub user: u32,
     /// So many seconds pass between two looks, at least one.
     pub seconds: u64,
+    /// Whether the marks are taken for those of this replica, since nothing was kept of theirs.
+    pub takes_replica: bool,
 }
 
 /// What works in a thread of its own beside a server.
@@ -45,20 +59,21 @@ pub(crate) trait Companion {
 
 /// What the folder's thread works with.
 #[derive(Drop)]
-pub(crate) struct FolderThread<'a, H, D: Disk, F, A: Disk> {
+pub(crate) struct FolderThread<'a, H, D: Disk, F, A: Disk, K> {
     pub(crate) rt: &'a H,
     pub(crate) alloc: Global,
     pub(crate) shared: &'a SharedReplica<D>,
-    pub(crate) side: FolderSide<'a, F, A>,
+    pub(crate) side: FolderSide<'a, F, A, K>,
     pub(crate) ending: &'a Ending,
 }
 
-impl<H, D, F, A> Companion for FolderThread<'_, H, D, F, A>
+impl<H, D, F, A, K> Companion for FolderThread<'_, H, D, F, A, K>
 where
     H: Wait + Clock + Log,
     D: Disk,
     F: Files,
     A: Disk + Drop,
+    K: KeepsReplica + Drop,
 {
     fn run(self) {
         let FolderThread {
@@ -84,6 +99,8 @@ struct SinceLastLook {
     position: u64,
     /// How often the folder was read since it looks so and the replica has this position.
     looks: u8,
+    /// The position of the replica of which was kept where it is, beside the marks.
+    kept: Option<u64>,
     told: ToldLines,
 }
 
@@ -92,16 +109,18 @@ struct SinceLastLook {
 enum LookError {
     Folder(FolderError),
     Reconcile(ReconcileError),
+    /// It cannot be kept where the replica is.
+    Unkept(Refusal),
 }
 
 /// Makes folder and replica the same at once, whenever one of them has changed, and once more when
 /// the server has ended.
-fn keep_folder<H, D, F, A>(
+fn keep_folder<H, D, F, A, K>(
     rt: &H,
     alloc: Global,
     shared: &SharedReplica<D>,
     mut pass: Pass<Replica<D>>,
-    mut side: FolderSide<'_, F, A>,
+    mut side: FolderSide<'_, F, A, K>,
     ending: &Ending,
 )
 where
@@ -109,14 +128,19 @@ where
     D: Disk,
     F: Files,
     A: Disk + Drop,
+    K: KeepsReplica + Drop,
     requires { IsFor shared.now pass }
 {
     let mut since = SinceLastLook {
         glimpse: None,
         position: 0,
         looks: 0,
+        kept: None,
         told: ToldLines::new(alloc),
     };
+    if side.takes_replica {
+        warn!(rt; "folder: nothing is kept of its marks' replica: this one is taken for it");
+    }
     for _ in rt.forever() {
         let is_over = ending.is_over(rt);
         look(rt, alloc, shared, &mut pass, &mut side, &mut since);
@@ -128,12 +152,12 @@ where
 }
 
 /// Looks at the folder and at the replica. Where one of them has changed, both are made the same.
-fn look<H, D, F, A>(
+fn look<H, D, F, A, K>(
     rt: &H,
     alloc: Global,
     shared: &SharedReplica<D>,
     pass: &mut Pass<Replica<D>>,
-    side: &mut FolderSide<'_, F, A>,
+    side: &mut FolderSide<'_, F, A, K>,
     since: &mut SinceLastLook,
 )
 where
@@ -141,6 +165,7 @@ where
     D: Disk,
     F: Files,
     A: Disk,
+    K: KeepsReplica,
     requires { IsFor shared.now pass.old }
     ensures { IsFor shared.now pass.new }
 {
@@ -150,7 +175,7 @@ where
         return;
     }
     make_room(rt, alloc, shared, pass);
-    let answer = make_same(rt, alloc, shared, pass, side, &mut since.told);
+    let answer = make_same_known(rt, alloc, shared, pass, side, since);
     let _ = tell(rt, alloc, side.root, &answer, &mut since.told);
     if is_passing(&answer) {
         since.looks = 0;
@@ -196,13 +221,68 @@ fn make_room<H: Wait + Log, D: Disk>(
     }
 }
 
-/// Makes folder and replica the same.
-fn make_same<H, D, F, A>(
+/// Makes folder and replica the same. It is kept where the replica is, before anything is recorded
+/// and once all is. Where the second cannot be kept, the next look is refused so.
+fn make_same_known<H, D, F, A, K>(
     rt: &H,
     alloc: Global,
     shared: &SharedReplica<D>,
     pass: &mut Pass<Replica<D>>,
-    side: &mut FolderSide<'_, F, A>,
+    side: &mut FolderSide<'_, F, A, K>,
+    since: &mut SinceLastLook,
+) -> Result<Report, LookError>
+where
+    H: Wait + Log,
+    D: Disk,
+    F: Files,
+    A: Disk,
+    K: KeepsReplica,
+    requires { IsFor shared.now pass.old }
+    ensures { IsFor shared.now pass.new }
+{
+    let before = keep_replica(rt, alloc, shared, pass, &side.keeper, &mut since.kept);
+    if let Err(refusal) = before {
+        return Err(LookError::Unkept(refusal));
+    }
+    let report = make_same(rt, alloc, shared, pass, side, &mut since.told);
+    let _ = keep_replica(rt, alloc, shared, pass, &side.keeper, &mut since.kept);
+    report
+}
+
+/// Keeps where the replica is in its history, where it has another position than the one of which
+/// that was kept.
+fn keep_replica<H: Wait, D: Disk, K: KeepsReplica>(
+    rt: &H,
+    alloc: Global,
+    shared: &SharedReplica<D>,
+    pass: &mut Pass<Replica<D>>,
+    keeper: &K,
+    kept: &mut Option<u64>,
+) -> Result<(), Refusal>
+    requires { IsFor shared.now pass.old }
+    ensures { IsFor shared.now pass.new }
+{
+    let status = match shared.status(rt, alloc, pass, LAST_PLACE) {
+        Ok(status) => status,
+        Err(error) => return Err(error.refusal()),
+    };
+    let position = status.position;
+    if *kept == Some(position) {
+        return Ok(());
+    }
+    let identity = shared.identity();
+    keeper.keep_replica(SideStatus { identity, status })?;
+    *kept = Some(position);
+    Ok(())
+}
+
+/// Makes folder and replica the same.
+fn make_same<H, D, F, A, K>(
+    rt: &H,
+    alloc: Global,
+    shared: &SharedReplica<D>,
+    pass: &mut Pass<Replica<D>>,
+    side: &mut FolderSide<'_, F, A, K>,
     told: &mut ToldLines,
 ) -> Result<Report, LookError>
 where
@@ -218,7 +298,7 @@ where
             return Err(LookError::Reconcile(ReconcileError::Archive(error)));
         }
     }
-    let mut folder = match SystemFolder::open_or_missing(alloc, side.files, side.root) {
+    let mut folder = match SystemFolder::open_to_edit(alloc, side.files, side.root) {
         Ok(folder) => folder,
         Err(error) => return Err(LookError::Folder(error)),
     };
@@ -229,9 +309,16 @@ where
     }
     let (archive, user) = (&mut side.archive, side.user);
     let refuse = WhenEmpty::Refuse;
-    reconcile_shared(rt, alloc, &mut folder, shared, pass, archive, user, refuse).map_err(
-        LookError::Reconcile,
-    )
+    let reconciled = reconcile_shared(rt, alloc, &mut folder, shared, pass, archive, user, refuse);
+    tell_kept(rt, folder.kept());
+    reconciled.map_err(LookError::Reconcile)
+}
+
+/// Tells what was replaced or removed in the folder, and where it lies.
+fn tell_kept<H: Log>(rt: &H, kept: &[Kept]) {
+    for one in kept {
+        info!(rt; "folder kept {one}");
+    }
 }
 
 /// Tells what a look came to: what was carried, and once what stays undone.
@@ -306,6 +393,13 @@ fn line_of(alloc: Global, root: &str, error: &LookError) -> Result<String, Alloc
             let number = error.number();
             format!(in alloc; "folder refused {number} {error}")
         }
+        LookError::Unkept(why) => {
+            let number = why.number();
+            format!(in alloc;
+                "folder refused {number} {why}: it cannot be kept beside its marks where the \
+                    replica is"
+            )
+        }
     }
 }
 
@@ -318,6 +412,7 @@ fn is_passing(answer: &Result<Report, LookError>) -> bool {
         }),
         Err(LookError::Folder(error)) => passes(error.refusal()),
         Err(LookError::Reconcile(error)) => passes(error.refusal()),
+        Err(LookError::Unkept(why)) => passes(*why),
     }
 }
 

@@ -11,8 +11,12 @@
 //!   ran.
 //! - `sync` and `run` drive one session of the coordinator over two connections, as `Driver::run`
 //!   of `syn_sync` does (`drives`). Ok says that a session was started, with the preference that
-//!   was asked for, and that none runs now (`ended`). Refused 9 where a side is not reached, and
-//!   `run` also 11 where a server has no thread: then the coordinator is as it was (`refused`).
+//!   was asked for, and that none runs now (`ended`). `run` is refused 9 where a port cannot be
+//!   had, and 11 where a server has no thread: then the coordinator is as it was (`refused`). Each
+//!   session takes a `Belonging` of the archive as it is (`BelongTo`), which `check_pair` of
+//!   `syn_pair` alone makes.
+//! - `Sides` are the connections of a session with two servers. `ask` asks a side over the very
+//!   connection over which the session goes.
 //! - `reach` is the connection to a server, for a session and for a user.
 //! - Within, each connection is served to its end by exchanges with a pass of the replica's lock,
 //!   with nothing staged at its start (`serve_over`: `WasServedWhole`).
@@ -27,13 +31,15 @@ mod pauses;
 mod server;
 mod sessions;
 mod shares;
+mod sides;
 mod streams;
 mod told;
 mod worker;
 
 pub use console::Plain;
-pub use folder_side::FolderSide;
+pub use folder_side::{FolderSide, KeepsReplica};
 pub use pauses::{NoPause, NoPauses, Pauses};
 pub use server::{Bounds, serve, serve_beside, serve_within};
 pub use sessions::{run, sync};
+pub use sides::Sides;
 pub use streams::reach;

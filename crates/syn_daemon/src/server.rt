@@ -5,7 +5,7 @@ ghost use Rattle.syn_refusal.specs.Refusals.{cause_of};
 
 use crate::bell::Bell;
 use crate::ending::Ending;
-use crate::folder_side::{Companion, FolderSide, FolderThread};
+use crate::folder_side::{Companion, FolderSide, FolderThread, KeepsReplica};
 use crate::pauses::Pauses;
 use crate::shares::Shares;
 use log::{Log, info, warn};
@@ -96,14 +96,14 @@ pub fn serve<H: Threads + Wait + Clock + Log + Sync, D: Disk + Send, G: Pauses>(
 /// can have, and `folder refused NUMBER NAME` where nothing is carried.
 ///
 /// Refused as `serve` is, and 11 where the folder's thread cannot be made, too.
-pub fn serve_beside<H, D, G, F, A>(
+pub fn serve_beside<H, D, G, F, A, K>(
     rt: &H,
     alloc: Global,
     shared: &SharedReplica<D>,
     listener: &TcpListener,
     connections: Option<u64>,
     pauses: &G,
-    side: FolderSide<'_, F, A>,
+    side: FolderSide<'_, F, A, K>,
 ) -> Result<(), Refusal>
 where
     H: Threads + Wait + Clock + Log + Sync,
@@ -113,6 +113,7 @@ where
     F::File: Send,
     F::Dir: Send,
     A: Disk + Drop + Send,
+    K: KeepsReplica + Drop + Send,
     ensures { IfErr result (λ why. (cause_of why ≡ NoSeat) ⊎ (cause_of why ≡ Memory)) }
 {
     let bounds = Bounds {

@@ -1,16 +1,17 @@
 //! Sessions over connections to servers.
 ghost use Rattle.std.specs.Prelude.{◌≡◌, ℕ, false, option_map, IfErr, OnOk};
 ghost use Rattle.syn_path.specs.Sides.{which_of};
-ghost use Rattle.syn_daemon.specs.Sessions.{DrivesSession, RefusesRun, RefusesSync};
+ghost use Rattle.syn_daemon.specs.Sessions.{BelongTo, DrivesSession, RefusesRun};
 ghost use Rattle.syn_daemon.specs.inner.Started.{RunsSession};
 ghost use Rattle.syn_disk.specs.Arms.{is_stopped};
-ghost use Rattle.syn_headline.specs.Coordinator.{CoordinatorMachine};
+ghost use Rattle.syn_machine.specs.Coordinator.{CoordinatorMachine};
 ghost use Rattle.syn_refusal.specs.Refusals.{cause_of};
-ghost use Rattle.syn_coordinator.specs.Coordinators.{Stands, device_of, runs};
+ghost use Rattle.syn_coordinator.specs.Coordinators.{Stands, archive_of, device_of, runs};
 ghost use Rattle.syn_sync.specs.Refusals.{Refuses};
 
 use crate::pauses::Pauses;
 use crate::server::serve;
+use crate::sides::Sides;
 use crate::streams::{Streams, reach};
 use log::{Log, warn};
 use std::alloc::Global;
@@ -21,68 +22,42 @@ use std::time::Clock;
 use std::{io, thread};
 use syn_coordinator::Coordinator;
 use syn_disk::Disk;
+use syn_pair::Belonging;
 use syn_path::Side;
 use syn_refusal::Refusal;
 use syn_shared::SharedReplica;
 use syn_sync::{Driver, SessionConnection, SessionWatch};
 
-/// Drives one session, which prefers a side or none, with the servers at these addresses, each
-/// `HOST:PORT`, and closes both connections. The coordinator has the report.
+/// Drives one session, which prefers a side or none, with the servers of both sides, which belong
+/// to the archive. The coordinator has the report.
 ///
-/// Refused 9 where an address cannot be resolved or reached, and 12 where both are of one server,
-/// which would be marked as agreeing with itself: no session runs then. Else refused as
-/// `Driver::run` is.
-pub fn sync<H: Net<Listener = TcpListener, Stream = TcpStream>, C: Disk, V: SessionWatch>(
-    rt: &H,
+/// Refused as `Driver::run` is.
+pub fn sync<C: Disk, V: SessionWatch>(
     alloc: Global,
     coordinator: &mut Coordinator<C>,
-    left: &str,
-    right: &str,
+    sides: &Sides,
+    belonging: Belonging,
     preference: Option<Side>,
     watch: &mut V,
 ) -> Result<(), Refusal>
+    requires { BelongTo (archive_of coordinator.old) belonging }
     ensures drives { (pair : ℕ) (machine : CoordinatorMachine)
         → Stands coordinator.old pair machine
         → DrivesSession (option_map which_of preference) coordinator.new pair machine result }
     ensures refused { (pair : ℕ) (machine : CoordinatorMachine)
         → Stands coordinator.old pair machine
-        → IfErr result (λ why. RefusesSync coordinator.old coordinator.new pair machine
+        → IfErr result (λ why. Refuses coordinator.old coordinator.new pair machine
         (cause_of why)) }
     ensures ended { OnOk result (runs coordinator.new ≡ false) }
     ensures goes { OnOk result (is_stopped (C.Disk.arms (device_of coordinator.new)) ≡ false) }
 {
-    let Some(left) = reach_side(rt, left, Side::Left, watch) else {
-        return Err(Refusal::Device);
-    };
-    let Some(right) = reach_side(rt, right, Side::Right, watch) else {
-        return Err(Refusal::Device);
-    };
-    if are_of_one(&left, &right) {
-        return Err(Refusal::Busy);
-    }
-    let streams = Streams::new(&left, &right);
-    drive(alloc, coordinator, streams, preference, watch)
+    drop(belonging);
+    drive(alloc, coordinator, sides.streams(), preference, watch)
 }
 
-/// A connection to the server of a side. Where it cannot be reached, that is told.
-fn reach_side<H: Net<Stream = TcpStream>, V: SessionWatch>(
-    rt: &H,
-    address: &str,
-    side: Side,
-    watch: &mut V,
-) -> Option<TcpStream> {
-    match reach(rt, address) {
-        Ok(stream) => Some(stream),
-        Err(error) => {
-            watch.unreached(side, &error);
-            None
-        }
-    }
-}
-
-/// Serves both replicas on loopback ports that the system picks, drives one session with the two
-/// servers, closes the connections and joins all threads. The coordinator comes back, with the
-/// report.
+/// Serves both replicas, which belong to the archive, on loopback ports that the system picks,
+/// drives one session with the two servers, closes the connections and joins all threads. The
+/// coordinator comes back, with the report.
 ///
 /// Refused 9 where a port cannot be bound or reached, and 11 where the thread of a server cannot
 /// be made: no session runs then. Else refused as `Driver::run` is. Where a server is refused, its
@@ -93,6 +68,7 @@ pub fn run<H, D, C, G, K, V>(
     left: &SharedReplica<D>,
     right: &SharedReplica<D>,
     coordinator: Coordinator<C>,
+    belonging: Belonging,
     left_pauses: &G,
     right_pauses: &K,
     preference: Option<Side>,
@@ -105,6 +81,7 @@ where
     G: Pauses + Sync,
     K: Pauses + Sync,
     V: SessionWatch,
+    requires { BelongTo (archive_of coordinator) belonging }
     ensures drives { (pair : ℕ) (machine : CoordinatorMachine) → Stands coordinator pair machine
         → DrivesSession (option_map which_of preference) result.0 pair machine result.1 }
     ensures refused { (pair : ℕ) (machine : CoordinatorMachine) → Stands coordinator pair machine
@@ -112,6 +89,7 @@ where
     ensures ended { OnOk result.1 (runs result.0 ≡ false) }
     ensures goes { OnOk result.1 (is_stopped (C.Disk.arms (device_of result.0)) ≡ false) }
 {
+    drop(belonging);
     let Ok((left_port, left_line)) = open_port(rt) else {
         return (coordinator, Err(Refusal::Device));
     };
@@ -228,12 +206,4 @@ fn open_port<H: Net<Listener = TcpListener, Stream = TcpStream>>(
     let listener = TcpListener::bind(rt, "127.0.0.1:0")?;
     let stream = reach(rt, listener.local_addr()?)?;
     Ok((listener, stream))
-}
-
-/// Whether both connections are to one server. One that is reached by two addresses is not seen.
-fn are_of_one(left: &TcpStream, right: &TcpStream) -> bool {
-    match (left.peer_addr(), right.peer_addr()) {
-        (Ok(left), Ok(right)) => left == right,
-        _ => false,
-    }
 }

@@ -6,7 +6,7 @@ ghost use Rattle.syn_shared.specs.Shared.{own_of};
 
 use crate::pauses::Ringing;
 use crate::server::Server;
-use log::{Log, info};
+use log::{Log, info, warn};
 use std::io::{Read, Write};
 use std::net::TcpStream;
 use std::sync::Wait;
@@ -32,9 +32,20 @@ where
     requires { IsLock L.lock L.origin (own_of server.now.shared.now) }
 {
     let drawn = server.pool.draw(server.rt);
-    let _ended = serve_over(server, drawn, &stream, &stream, pause);
+    let ended = serve_over(server, drawn, &stream, &stream, pause);
     drop(stream);
-    info!(server.rt; "connection {number} closed");
+    tell_closed(server.rt, number, ended);
+}
+
+/// Logs that the connection is closed, after a line that says so where another connection had begun
+/// its session.
+fn tell_closed<H: Log>(rt: &H, number: u64, ended: Option<Result<(), ServeError>>) {
+    if let Some(Err(ServeError::BegunElsewhere)) = ended {
+        let why = ServeError::BegunElsewhere.refusal();
+        let code = why.number();
+        warn!(rt; "connection {number} refused {code} {why}: another one began its session");
+    }
+    info!(rt; "connection {number} closed");
 }
 
 /// Serves what comes from the reader, with the pass that was drawn, and puts the pass back. It

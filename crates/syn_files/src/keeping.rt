@@ -1,7 +1,9 @@
 //! Two servers that are kept the same: a session runs whenever one of them has changed.
 
+use crate::asking::{Addresses, ask_both, is_older};
 use crate::named::{NamedDisks, archive_in};
-use crate::sessions::{progress_for, reported};
+use crate::pairs::PairKeeper;
+use crate::sessions::{KeptAtEnd, progress_for, reported, sync_sides};
 use crate::upkeep::shorten_archive;
 use std::alloc::{AllocError, Global};
 use std::io::{self, ErrorKind, Write};
@@ -11,16 +13,17 @@ use std::time::{Clock, Duration};
 use syn_cli::KeepCommand;
 use syn_command::{CommandError, Outcome, Teller};
 use syn_coordinator::Coordinator;
-use syn_daemon::{reach, sync};
+use syn_daemon::{Sides, reach};
 use syn_disk::Disk;
 use syn_image::Kept;
 use syn_message::{Reply, ReplyMessage};
+use syn_pair::LAST_PLACE;
 use syn_path::{Path, Side};
 use syn_print::show_report;
 use syn_refusal::Refusal;
 use syn_session::{End, Report, SettledItems};
 use syn_sync::{SessionWatch, tell_unreached};
-use syn_user::SideConnection;
+use syn_user::UserConnection;
 
 /// Runs a session of the command's servers, and another one each time that a side has changed
 /// since. It looks every so many seconds, at least one, and an idle pair is written nothing. A
@@ -29,7 +32,8 @@ use syn_user::SideConnection;
 /// cannot be reached is told once, and tried again.
 ///
 /// It goes on as long as the process. Refused as an opening of the archive is, 9 where its device
-/// fails or the output cannot be written, and as `sync` is.
+/// fails or the output cannot be written, 12, 14 and 20 where the sides and the archive do not
+/// belong together, 20 where a server is of an older version, and as `sync` is.
 pub fn keep_servers<H, N, O, E>(
     rt: &H,
     alloc: Global,
@@ -45,13 +49,14 @@ where
     E: Write,
 {
     let archive = archive_in(alloc, disks, command.archive)?;
+    let pair = PairKeeper::open(alloc, disks, command.archive)?;
     let coordinator = Coordinator::new(alloc, archive);
     if !teller.verbosity.each {
         let mut watch = UnreachedOnly(&mut *teller.errors);
-        return keep(rt, alloc, coordinator, command, &mut watch, output);
+        return keep(rt, alloc, coordinator, pair, command, &mut watch, output);
     }
     let mut watch = progress_for(alloc, teller);
-    keep(rt, alloc, coordinator, command, &mut watch, output)
+    keep(rt, alloc, coordinator, pair, command, &mut watch, output)
 }
 
 /// Tells which side cannot be reached, and nothing else.
@@ -63,7 +68,9 @@ impl<E: Write> SessionWatch for UnreachedOnly<'_, E> {
         tell_unreached(self.0, side, why);
     }
 
-    fn heard(&mut self, _from: Side, _answered: &ReplyMessage) {}
+    fn heard(&mut self, _from: Side, _answered: &ReplyMessage) -> bool {
+        true
+    }
 
     fn settled(&mut self, _settled: &SettledItems<'_>, _kept: &[Kept]) {}
 
@@ -88,7 +95,7 @@ impl<V: SessionWatch> SessionWatch for PositionCounter<'_, V> {
         self.watch.unreached(side, why);
     }
 
-    fn heard(&mut self, from: Side, answered: &ReplyMessage) {
+    fn heard(&mut self, from: Side, answered: &ReplyMessage) -> bool {
         let after = match from {
             Side::Left => &mut self.left,
             Side::Right => &mut self.right,
@@ -98,7 +105,7 @@ impl<V: SessionWatch> SessionWatch for PositionCounter<'_, V> {
             Reply::Done => *after = after.saturating_add(1),
             _ => {}
         }
-        self.watch.heard(from, answered);
+        self.watch.heard(from, answered)
     }
 
     fn settled(&mut self, settled: &SettledItems<'_>, kept: &[Kept]) {
@@ -178,10 +185,11 @@ struct SinceLastSession {
 }
 
 /// Runs a session whenever a side has changed.
-fn keep<H, D, V, O>(
+fn keep<H, D, N, V, O>(
     rt: &H,
     alloc: Global,
     mut coordinator: Coordinator<D>,
+    mut pair: PairKeeper<'_, N>,
     command: &KeepCommand<'_>,
     watch: &mut V,
     output: &mut O,
@@ -189,6 +197,7 @@ fn keep<H, D, V, O>(
 where
     H: Net<Listener = TcpListener, Stream = TcpStream> + Clock,
     D: Disk + Drop,
+    N: NamedDisks,
     V: SessionWatch,
     O: Write,
 {
@@ -206,8 +215,9 @@ where
             is_told: false,
         },
     };
-    let ended = keeper.keep(&mut coordinator, &mut servers, watch, output);
+    let ended = keeper.keep(&mut coordinator, &mut pair, &mut servers, watch, output);
     drop(keeper);
+    drop(pair);
     drop(servers);
     drop(coordinator);
     ended?;
@@ -228,17 +238,18 @@ where
     H: Net<Listener = TcpListener, Stream = TcpStream> + Clock,
 {
     /// Looks at both sides every so many seconds, and runs a session where one has changed.
-    fn keep<D: Disk, V: SessionWatch, O: Write>(
+    fn keep<D: Disk, N: NamedDisks, V: SessionWatch, O: Write>(
         &mut self,
         coordinator: &mut Coordinator<D>,
+        keeper: &mut PairKeeper<'_, N>,
         servers: &mut PolledServers<'_>,
         watch: &mut V,
         output: &mut O,
     ) -> Result<(), CommandError> {
         for _round in 0..u64::MAX {
-            if let Some(found) = self.positions(servers, watch) {
+            if let Some(found) = self.positions(servers, watch)? {
                 if self.since.positions != Some(found) {
-                    self.run_session(coordinator, watch, output)?;
+                    self.run_session(coordinator, keeper, watch, output)?;
                 }
             }
             thread::sleep(self.rt, Duration::from_secs(self.command.seconds.max(1)));
@@ -246,36 +257,50 @@ where
         Ok(())
     }
 
+    /// The addresses of both servers.
+    fn addresses(&self) -> Addresses<'_> {
+        Addresses {
+            left: self.command.left,
+            right: self.command.right,
+        }
+    }
+
     /// The positions of both sides. A side that cannot be reached is told, unless that was told
     /// since both were reached last.
+    ///
+    /// Refused 20 where a server is of an older version.
     fn positions<V: SessionWatch>(
         &mut self,
         servers: &mut PolledServers<'_>,
         watch: &mut V,
-    ) -> Option<(u64, u64)> {
-        let (side, error) = match servers.left.position(self.rt, self.alloc) {
+    ) -> Result<Option<(u64, u64)>, CommandError> {
+        let (side, address, error) = match servers.left.position(self.rt, self.alloc) {
             Ok(left) => match servers.right.position(self.rt, self.alloc) {
                 Ok(right) => {
                     self.since.is_told = false;
-                    return Some((left, right));
+                    return Ok(Some((left, right)));
                 }
-                Err(error) => (Side::Right, error),
+                Err(error) => (Side::Right, self.command.right, error),
             },
-            Err(error) => (Side::Left, error),
+            Err(error) => (Side::Left, self.command.left, error),
         };
+        if is_older(self.rt, self.alloc, address) {
+            return Err(CommandError::OlderServer(side));
+        }
         if !self.since.is_told {
             watch.unreached(side, &error);
             self.since.is_told = true;
         }
-        None
+        Ok(None)
     }
 
     /// Runs one session, prints its report where that says something new, and keeps what is then
     /// known. Where a side cannot be reached, `sync` has told it, and the next look tries again; a
     /// connection that is lost in the session ends it 25.
-    fn run_session<D: Disk, V: SessionWatch, O: Write>(
+    fn run_session<D: Disk, N: NamedDisks, V: SessionWatch, O: Write>(
         &mut self,
         coordinator: &mut Coordinator<D>,
+        keeper: &mut PairKeeper<'_, N>,
         watch: &mut V,
         output: &mut O,
     ) -> Result<(), CommandError> {
@@ -285,22 +310,16 @@ where
             right: 0,
             is_unreached: false,
         };
-        let went = sync(
-            self.rt,
-            self.alloc,
-            coordinator,
-            self.command.left,
-            self.command.right,
-            self.command.preference,
-            &mut counter,
-        );
+        let went = self.sync(coordinator, keeper, &mut counter);
         let after = (counter.left, counter.right);
         if counter.is_unreached {
             self.since.positions = None;
             self.since.is_told = true;
             return Ok(());
         }
-        went?;
+        let Some(kept) = went? else {
+            return Ok(());
+        };
         let report = reported(coordinator)?;
         watch.ended(report);
         self.print_news(report, output)?;
@@ -310,7 +329,34 @@ where
             is_told: false,
         };
         shorten_archive(self.alloc, coordinator);
-        Ok(())
+        kept
+    }
+
+    /// Runs one session, where no side is halted: such a one is left alone until it is opened
+    /// again, so that no number is taken. None where none ran.
+    fn sync<D: Disk, N: NamedDisks, V: SessionWatch>(
+        &self,
+        coordinator: &mut Coordinator<D>,
+        keeper: &mut PairKeeper<'_, N>,
+        watch: &mut V,
+    ) -> Result<Option<KeptAtEnd>, CommandError> {
+        let (alloc, command) = (self.alloc, self.command);
+        let sides = Sides::reach(self.rt, command.left, command.right, &mut *watch)?;
+        let (addresses, known) = (self.addresses(), keeper.known());
+        let found = ask_both(self.rt, alloc, addresses, &sides, known, &mut *watch)?;
+        if found.left.status.halted || found.right.status.halted {
+            return Ok(None);
+        }
+        let kept = sync_sides(
+            alloc,
+            coordinator,
+            keeper,
+            &sides,
+            found,
+            command.preference,
+            watch,
+        )?;
+        Ok(Some(kept))
     }
 
     /// Prints the report of a session that did something, or left other things undone than the one
@@ -340,7 +386,7 @@ struct PolledServers<'a> {
 #[derive(Drop)]
 struct PolledServer<'a> {
     address: &'a str,
-    connection: Option<SideConnection<TcpStream, TcpStream>>,
+    connection: Option<UserConnection<TcpStream, TcpStream>>,
 }
 
 impl<'a> PolledServer<'a> {
@@ -356,18 +402,18 @@ impl<'a> PolledServer<'a> {
     /// look is opened again.
     fn position<H: Net<Stream = TcpStream>>(&mut self, rt: &H, alloc: Global) -> io::Result<u64> {
         if let Some(connection) = &mut self.connection {
-            if let Ok(position) = connection.position(alloc) {
-                return Ok(position);
+            if let Ok((_, status)) = connection.status(alloc, LAST_PLACE) {
+                return Ok(status.position);
             }
             self.connection = None;
         }
         let reader = reach(rt, self.address)?;
         let writer = reader.try_clone()?;
-        let mut connection = SideConnection::new(alloc, reader, writer);
-        match connection.position(alloc) {
-            Ok(position) => {
+        let mut connection = UserConnection::new(alloc, reader, writer);
+        match connection.status(alloc, LAST_PLACE) {
+            Ok((_, status)) => {
                 self.connection = Some(connection);
-                Ok(position)
+                Ok(status.position)
             }
             Err(_) => Err(io::Error::from(ErrorKind::ConnectionAborted)),
         }

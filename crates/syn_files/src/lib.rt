@@ -17,11 +17,16 @@
 //!   That they do what the command asks, of the disk that it names, is shown by tests alone.
 #![tactic(auto)]
 
+mod asking;
 mod folders;
+mod following;
+mod held;
 mod images;
 mod keeping;
+mod marks;
 mod named;
 mod network;
+mod pairs;
 mod plans;
 mod reconciling;
 mod sessions;
@@ -29,9 +34,11 @@ mod side_by_side;
 mod upkeep;
 
 pub use folders::{export, import};
+pub use following::format_after;
+pub use held::{Held, held_in};
 pub use images::{edit, migrate, print_image, print_log, print_numbers, print_path};
 pub use keeping::keep_servers;
-pub use named::NamedDisks;
+pub use named::{Beside, NamedDisks};
 pub use network::serve_named;
 pub use plans::print_plan;
 pub use reconciling::{plan_named, reconcile_named};

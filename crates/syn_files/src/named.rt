@@ -5,7 +5,17 @@ use std::alloc::Global;
 use syn_archive::Archive;
 use syn_command::{CommandError, OpenedImage, open_image};
 use syn_disk::{Access, Disk, LockedDisk, OpenError};
+use syn_history::Identity;
 use syn_replica::Replica;
+
+/// What is kept beside an archive.
+#[derive(Clone, Copy, Debug, PartialEq, Eq)]
+pub enum Beside {
+    /// What is known of the two sides of an archive.
+    Sides,
+    /// What is known of the replica that a folder's marks are of.
+    Replica,
+}
 
 /// Disks that have names.
 pub trait NamedDisks {
@@ -29,6 +39,54 @@ pub trait NamedDisks {
     ///
     /// Refused 9 where the device fails, and 11 for lack of memory.
     fn make_archive(&self, alloc: Global, name: &str, pair: u64) -> Result<(), CommandError>;
+
+    /// Makes the disk of that name, or a new one, an archive of the pair without marks, whose last
+    /// session has this number. What was known of the sides of an old one there is taken away.
+    ///
+    /// Refused 12 where it is in use, 9 where the device fails, and 11 for lack of memory.
+    fn format_after(
+        &self,
+        alloc: Global,
+        name: &str,
+        pair: u64,
+        last_session: u64,
+    ) -> Result<(), CommandError>;
+
+    /// What the replica's disk of that name is known by. It lies beside the disk. With `Write`,
+    /// where it is missing, it is drawn at random and kept, whole and durably, before this returns;
+    /// the caller has the disk's lock. With `Read` there is none then.
+    ///
+    /// Refused 9 where it cannot be read or written, or where the file of its name is somebody
+    /// else's; and 11 for lack of memory.
+    fn identity(
+        &self,
+        alloc: Global,
+        name: &str,
+        access: Access,
+    ) -> Result<Option<Identity>, CommandError>;
+
+    /// What was kept last beside the archive of that name; none where nothing was.
+    ///
+    /// Refused 9 where it cannot be read, or where the file of its name is somebody else's; and 11
+    /// for lack of memory.
+    fn read_beside(
+        &self,
+        alloc: Global,
+        name: &str,
+        what: Beside,
+    ) -> Result<Option<Vec<u8>>, CommandError>;
+
+    /// Keeps these bytes beside the archive of that name. A stop leaves them whole, or what was
+    /// kept before.
+    ///
+    /// Refused 9 where they cannot be written, and 11 for lack of memory.
+    fn write_beside(
+        &self,
+        alloc: Global,
+        name: &str,
+        what: Beside,
+        bytes: &[u8],
+    ) -> Result<(), CommandError>;
 }
 
 /// The replica of that name, which no other process may open meanwhile.

@@ -1,7 +1,8 @@
 //! What goes over the network: a server, and a user of a served replica.
 
+use crate::marks::MarksKeeper;
 use crate::named::{NamedDisks, replica_in};
-use crate::reconciling::{archive_name, archive_or_new};
+use crate::reconciling::{archive_name, archive_or_new, takes_replica};
 use crate::sessions::shared;
 use log::{LevelFilter, Logged};
 use std::alloc::Global;
@@ -13,8 +14,8 @@ use std::thread::Threads;
 use std::time::Clock;
 use syn_cli::{EditCommand, ServeCommand};
 use syn_command::{CommandError, read_edit, show_path};
-use syn_daemon::{FolderSide, NoPauses, Plain, reach, serve, serve_beside};
-use syn_disk::Disk;
+use syn_daemon::{FolderSide, KeepsReplica, NoPauses, Plain, reach, serve, serve_beside};
+use syn_disk::{Access, Disk};
 use syn_path::Path;
 use syn_print::show_served;
 use syn_refusal::Refusal;
@@ -26,8 +27,9 @@ use syn_user::{SideConnection, UserConnection};
 /// and served; with none it serves on. Where the command has a folder, that is kept the same as the
 /// replica meanwhile. It logs to the handle's standard error.
 ///
-/// Refused as an opening of the disk is, and of the archive that a folder has; 9 where the address
-/// cannot be bound, and 11 where memory is refused.
+/// Refused as an opening of the disk is, and of the archive that a folder has; 20 where that
+/// archive is of another replica, or the replica is an older copy; 9 where the address cannot be
+/// bound, and 11 where memory is refused.
 pub fn serve_named<'a, H, N, F>(
     rt: &H,
     alloc: Global,
@@ -38,26 +40,34 @@ pub fn serve_named<'a, H, N, F>(
 where
     H: Net<Listener = TcpListener, Stream = TcpStream> + Threads + Wait + Clock + Eprint,
     H: Copy + Sync,
-    N: NamedDisks,
+    N: NamedDisks + Sync,
     F: Files + Sync,
     F::File: Send,
     F::Dir: Send,
 {
     let replica = replica_in(alloc, disks, command.file)?;
+    let identity = disks.identity(alloc, command.file, Access::Write)?;
     let Some(folder) = command.folder else {
-        let shared = shared(alloc, replica)?;
+        let shared = shared(alloc, replica)?.with_identity(identity);
         return serve_alone(rt, alloc, &shared, command);
     };
     let name = archive_name(alloc, command.file, None)?;
     let archive = archive_or_new(alloc, disks, &name, replica.pair())?;
+    let mut keeper = MarksKeeper::open(alloc, disks, &name, false)?;
+    let found = keeper.ask(identity, &replica)?;
+    keeper.check_to_use(&found)?;
+    let takes_replica = takes_replica(&keeper, &archive);
+    keeper.keep_now(identity, &replica)?;
     let side = FolderSide {
         files,
         root: folder.folder,
         archive,
+        keeper,
         user: folder.user,
         seconds: folder.seconds.unwrap_or(1),
+        takes_replica,
     };
-    let shared = shared(alloc, replica)?;
+    let shared = shared(alloc, replica)?.with_identity(identity);
     serve_with_folder(rt, alloc, &shared, command, side)
 }
 
@@ -81,12 +91,12 @@ where
 }
 
 /// Serves the replica at the address, and keeps the folder the same.
-fn serve_with_folder<H, D, F, A>(
+fn serve_with_folder<H, D, F, A, K>(
     rt: &H,
     alloc: Global,
     shared: &SharedReplica<D>,
     command: &ServeCommand<'_>,
-    side: FolderSide<'_, F, A>,
+    side: FolderSide<'_, F, A, K>,
 ) -> Result<(), CommandError>
 where
     H: Net<Listener = TcpListener, Stream = TcpStream> + Threads + Wait + Clock + Eprint,
@@ -96,6 +106,7 @@ where
     F::File: Send,
     F::Dir: Send,
     A: Disk + Drop + Send,
+    K: KeepsReplica + Drop + Send,
 {
     let listener = TcpListener::bind(rt, command.address)?;
     let logged = Logged::new(*rt, LevelFilter::Info, Plain(*rt));

@@ -1,5 +1,6 @@
 //! A folder and the replica of a name, which are made the same.
 
+use crate::marks::MarksKeeper;
 use crate::named::{NamedDisks, archive_on, replica_in, replica_to_read};
 use crate::plans::print_compared;
 use std::alloc::{AllocError, Global};
@@ -9,7 +10,7 @@ use syn_archive::Archive;
 use syn_cli::ReconcileCommand;
 use syn_command::{CommandError, Outcome, Teller, carried_line, marked_line};
 use syn_disk::{Access, Disk, MemDisk, OpenError};
-use syn_folder::{EditedFolder, SystemFolder};
+use syn_folder::{EditedFolder, Kept, SystemFolder};
 use syn_path::Side;
 use syn_reconcile::{
     ItemWatch, ReconcileError, Report, Settled, Settlement, WhenEmpty, plan, reconcile,
@@ -18,10 +19,16 @@ use syn_replica::Replica;
 
 /// Makes the command's folder and its replica the same, by what both last agreed on, prints a
 /// report, and answers what it came to. What no replica can have is told, and left alone on both
-/// sides; each item that is carried or marked is told, too, and how many are settled.
+/// sides; each item that is carried or marked is told, too, how many are settled, and where what
+/// was taken away from the folder lies.
 ///
-/// Refused as the replica and the archive are opened, 9 and 13 as the folder is read, and as
-/// `reconcile` is: what was carried before stands then, and the same line goes on.
+/// It is kept beside the archive where the replica is in its history, before anything is recorded
+/// and once all is. Anew, it begins without marks: nothing is removed, and what differs is a
+/// conflict.
+///
+/// Refused as the replica and the archive are opened, 20 where the archive is not of this replica,
+/// or the replica is an older copy, 9 and 13 as the folder is read, and as `reconcile` is: what was
+/// carried before stands then, and the same line goes on.
 pub fn reconcile_named<N: NamedDisks, F: Files, O: Write, E: Write>(
     alloc: Global,
     disks: &N,
@@ -32,16 +39,53 @@ pub fn reconcile_named<N: NamedDisks, F: Files, O: Write, E: Write>(
 ) -> Result<Outcome, CommandError> {
     let name = archive_name(alloc, command.file, command.archive)?;
     let replica = replica_in(alloc, disks, command.file)?;
+    if command.is_anew {
+        disks.format_after(alloc, &name, replica.pair(), 0)?;
+    }
     let mut archive = archive_or_new(alloc, disks, &name, replica.pair())?;
-    let mut folder = SystemFolder::open_or_missing(alloc, files, command.folder)?;
+    let identity = disks.identity(alloc, command.file, Access::Write)?;
+    let mut keeper = MarksKeeper::open(alloc, disks, &name, command.is_anew)?;
+    let found = keeper.ask(identity, &replica)?;
+    keeper.check_to_use(&found)?;
+    tell_taken(&keeper, &archive, command.file, teller.errors);
+    let mut folder = SystemFolder::open_to_edit(alloc, files, command.folder)?;
     tell_strangers(&folder, teller.errors);
-    let (folder, archive) = (&mut folder, &mut archive);
-    let report = reconcile_opened(alloc, folder, replica, archive, command, teller)?;
+    keeper.keep_now(identity, &replica)?;
+    let (opened, archive) = (&mut folder, &mut archive);
+    let reconciled = reconcile_opened(alloc, opened, replica, archive, command, teller);
+    tell_kept(folder.kept(), teller);
+    let (replica, report) = reconciled?;
     print_report(&report, output)?;
+    keeper.keep_now(identity, &replica)?;
     Ok(outcome_of(&report))
 }
 
-/// Makes the folder and the replica the same, and answers what came of each item.
+/// Tells where marks are taken for those of the replica, since nothing is known of theirs.
+fn tell_taken<N: NamedDisks, A: Disk, E: Write>(
+    keeper: &MarksKeeper<'_, N>,
+    archive: &Archive<A>,
+    file: &str,
+    errors: &mut E,
+) {
+    if takes_replica(keeper, archive) {
+        let _ = writeln!(
+            errors,
+            "syn: nothing is kept of the replica that the folder's marks are of: they are taken \
+                for those of {file}"
+        );
+    }
+}
+
+/// Whether there are marks, and nothing is known of their replica, as before it was kept.
+pub(crate) fn takes_replica<N: NamedDisks, A: Disk>(
+    keeper: &MarksKeeper<'_, N>,
+    archive: &Archive<A>,
+) -> bool {
+    !keeper.is_known() && archive.tree().as_slice().len() > 1
+}
+
+/// Makes the folder and the replica the same, and answers the replica then, and what came of each
+/// item.
 fn reconcile_opened<F: EditedFolder, R: Disk + Drop, A: Disk, E: Write>(
     alloc: Global,
     folder: &mut F,
@@ -49,7 +93,7 @@ fn reconcile_opened<F: EditedFolder, R: Disk + Drop, A: Disk, E: Write>(
     archive: &mut Archive<A>,
     command: &ReconcileCommand<'_>,
     teller: &mut Teller<'_, E>,
-) -> Result<Report, CommandError> {
+) -> Result<(Replica<R>, Report), CommandError> {
     let mut watch = ItemsTold {
         alloc,
         planned: 0,
@@ -68,7 +112,7 @@ fn reconcile_opened<F: EditedFolder, R: Disk + Drop, A: Disk, E: Write>(
     );
     teller.end();
     match settled {
-        Ok((_, report)) => Ok(report),
+        Ok(done) => Ok(done),
         Err((error, _)) => Err(command_error_of(error, command, teller.errors)),
     }
 }
@@ -76,8 +120,8 @@ fn reconcile_opened<F: EditedFolder, R: Disk + Drop, A: Disk, E: Write>(
 /// Prints what `reconcile_named` would do, and answers what there is to do. Nothing is written, and
 /// an archive that is missing is not made.
 ///
-/// Refused as the replica and the archive are opened to read, 9 and 13 as the folder is read, and
-/// as `plan` of `syn_reconcile` is.
+/// Refused as the replica and the archive are opened to read, 20 as `reconcile_named` is, 9 and 13
+/// as the folder is read, and as `plan` of `syn_reconcile` is.
 pub fn plan_named<N: NamedDisks, F: Files, O: Write, E: Write>(
     alloc: Global,
     disks: &N,
@@ -88,6 +132,9 @@ pub fn plan_named<N: NamedDisks, F: Files, O: Write, E: Write>(
 ) -> Result<Outcome, CommandError> {
     let name = archive_name(alloc, command.file, command.archive)?;
     let replica = replica_to_read(alloc, disks, command.file)?;
+    let identity = disks.identity(alloc, command.file, Access::Read)?;
+    let keeper = MarksKeeper::open(alloc, disks, &name, command.is_anew)?;
+    keeper.check(&keeper.ask(identity, &replica)?)?;
     let folder = SystemFolder::open_or_missing(alloc, files, command.folder)?;
     tell_strangers(&folder, errors);
     let asked = PlanOfFolder {
@@ -95,6 +142,10 @@ pub fn plan_named<N: NamedDisks, F: Files, O: Write, E: Write>(
         replica: &replica,
         command,
     };
+    if command.is_anew {
+        let archive = empty_archive(alloc, replica.pair())?;
+        return asked.print(alloc, &archive, output, errors);
+    }
     match disks.lock(&name, Access::Read) {
         Err(error) if is_missing(&error) => {
             let archive = empty_archive(alloc, replica.pair())?;
@@ -191,6 +242,16 @@ fn when_empty(command: &ReconcileCommand<'_>) -> WhenEmpty {
 fn tell_strangers<F: EditedFolder, E: Write>(folder: &F, errors: &mut E) {
     for stranger in folder.strangers() {
         let _ = writeln!(errors, "syn: skipped {stranger}");
+    }
+}
+
+/// Tells what was taken away from the folder: what lies beside something else at its path, and,
+/// where each thing that is done is told, the others, too.
+fn tell_kept<E: Write>(kept: &[Kept], teller: &mut Teller<'_, E>) {
+    for one in kept {
+        if one.is_apart || teller.verbosity.each {
+            let _ = writeln!(teller.errors, "syn: kept {one}");
+        }
     }
 }
 

@@ -1,10 +1,13 @@
 //! The images of a session, opened side by side.
-use crate::named::{archive_on, replica_on};
+use crate::named::{NamedDisks, archive_on, replica_on};
+use crate::pairs::{PairKeeper, status_in};
 use std::alloc::Global;
 use std::thread::{Threads, join};
 use syn_archive::Archive;
 use syn_command::CommandError;
-use syn_disk::{Disk, LockedDisk, OpenError};
+use syn_disk::{Access, Disk, LockedDisk, OpenError};
+use syn_pair::KnownSides;
+use syn_path::Side;
 use syn_replica::Replica;
 
 /// The images of a session, open.
@@ -44,5 +47,27 @@ where
         left: left?,
         right: right?,
         archive: archive?,
+    })
+}
+
+/// What both replicas say of themselves, which have these names. Where `access` is to write, their
+/// disks get identities if they have none.
+///
+/// Refused 9 where an identity cannot be read or written, and 11 where memory is refused.
+pub(crate) fn status_of_images<D: Disk, N: NamedDisks>(
+    alloc: Global,
+    disks: &N,
+    access: Access,
+    names: (&str, &str),
+    images: &Images<D>,
+    keeper: &PairKeeper<'_, N>,
+) -> Result<KnownSides, CommandError> {
+    let (left, right) = names;
+    let status = |name: &str, replica: &Replica<D>, side: Side| {
+        status_in(alloc, disks, name, access, replica, side, keeper.known())
+    };
+    Ok(KnownSides {
+        left: status(left, &images.left, Side::Left)?,
+        right: status(right, &images.right, Side::Right)?,
     })
 }

@@ -2,3 +2,5 @@ pub mod Looks
 pub mod Refusals
 pub mod Strangers
 pub mod Glimpses
+pub mod Stages
+pub mod Places

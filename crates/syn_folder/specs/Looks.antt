@@ -22,7 +22,7 @@ use Rattle.syn_folder.specs.declared.stranger.Strangeness.TheVariants as why
 use Rattle.syn_folder.specs.declared.stranger.Stranger.{Stranger}
 use Rattle.syn_folder.specs.declared.system.listing.Fit.{Fit}
 use Rattle.syn_folder.specs.declared.system.listing.Fit.TheVariants as fit
-use Rattle.syn_folder.specs.declared.system.listing.TheConstants.{PART}
+use Rattle.syn_folder.specs.declared.system.listing.TheConstants.{OWN, PART}
 use Rattle.syn_folder.specs.declared.system.looks.Look.{Look}
 use Rattle.syn_folder.specs.declared.system.looks.Looked.{Looked}
 use Rattle.syn_folder.specs.declared.system.looks.Seen.{Seen}
@@ -77,11 +77,12 @@ IsShownAs there (shown.Strange because) =
 IsShownAs there shown.Unread = IsWhyStrange there None × ¬ IsDir (file_type there)
 IsShownAs there shown.Changed = IsWhyStrange there None
 
--- what the system lists and is neither the directory itself, the one above it, nor a part of an
--- export
+-- what the system lists and is neither the directory itself, the one above it, what belongs to
+-- `syn` itself, nor a part of an export
 abbrev pub is_listed : Bytes → Bool
 is_listed name = not (length name == 0) && (not (bytes_eq name (codes "."))
-    && (not (bytes_eq name (codes "..")) && not (starts_with ◌==◌ name PART.now)))
+    && (not (bytes_eq name (codes "..")) && (not (bytes_eq name OWN.now)
+    && not (starts_with ◌==◌ name PART.now))))
 
 -- the pieces of what is listed, each of which ends with a zero byte
 abbrev pub pieces : Bytes → List Bytes

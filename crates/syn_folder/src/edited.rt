@@ -33,8 +33,8 @@ pub trait EditedFolder {
     /// the call succeeds.
     ///
     /// Refused 13 where something at or below the path is another thing than what was read. Refused
-    /// 6 at the root, 2 where the parent is no directory, 7 where the tree would pass a limit, 11
-    /// where memory is refused, and 9 where a call of the system fails.
+    /// 6 at the root, 2 where the parent is no directory, 7 where the tree would pass a limit or a
+    /// name is `.syn`, 11 where memory is refused, and 9 where a call of the system fails.
     fn replace(&mut self, alloc: Global, path: &Path, new: Option<Node>) -> Result<(), FolderError>
         ensures done { OnOk result
             (tree self.new ≡ replace (tree self.old) path.now (part_of new)) }

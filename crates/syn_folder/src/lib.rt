@@ -18,7 +18,8 @@
 //!
 //! An `EditedFolder` is one that people go on editing. It shows the tree that was read of it, and
 //! has one call that changes it: `replace`, which puts a part in the place of another only where
-//! that is still what was read. That `SystemFolder` looks is taken as given, too.
+//! that is still what was read. A `SystemFolder` moves what it replaces into `.syn/kept`, by calls
+//! whose order is proved, and tells where it lies (`Kept`); what each call does is taken as given.
 //!
 //! A `Glimpse` is how a folder of the system looks from outside. Two are the same exactly where the
 //! same names were listed and what stood there looked the same (`is_same`).
@@ -29,6 +30,7 @@ mod error;
 mod export;
 mod folder;
 mod import;
+mod kept;
 mod stranger;
 mod system;
 
@@ -37,5 +39,6 @@ pub use error::FolderError;
 pub use export::{fill, mirror, update};
 pub use folder::{Folder, WrittenFolder};
 pub use import::{all_known, skipping};
+pub use kept::Kept;
 pub use stranger::{Strangeness, Stranger};
 pub use system::{ExportedFolder, Glimpse, SystemFolder, take_glimpse};

@@ -23,6 +23,8 @@ pub enum Strangeness {
     Count,
     /// It is the folder itself, and takes more bytes in all than a replica has.
     Room,
+    /// It has a name `.syn` in its path, which a folder keeps for what belongs to `syn` itself.
+    Own,
 }
 
 /// Something of a folder that can stand in no replica.
@@ -64,6 +66,7 @@ impl fmt::Display for Stranger {
             Strangeness::Locked => write!(f, "{text:?} may not be read"),
             Strangeness::Count => write!(f, "{text:?} has more than 1023 files and directories"),
             Strangeness::Room => write!(f, "{text:?} takes more than 526336 bytes in all"),
+            Strangeness::Own => write!(f, "{text:?} has a name that belongs to syn itself"),
         }
     }
 }

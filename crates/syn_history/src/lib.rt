@@ -24,15 +24,22 @@
 //!   A new trail has one, and a trail that was read from an image has none.
 //! - `position`, `floor`, `last_session`, `last_token` and `touches` read the trail. The touches
 //!   come as two slices, the second after the first, oldest first, at most 4,096 (`all`, `count`).
+//! - `path_at` is the path of the kept touch at a place. `place_for` is the place that is asked
+//!   about: the greatest number asks for that of the last touch, which is `last_place`.
+//! - A `ReplicaStatus` is what a replica tells of itself (`status_of`). Each is lawful, which its
+//!   types say (`status_laws`).
 //! - `from_parts` takes what an image has of a trail (`parts`) exactly where it is lawful. Then,
 //!   with each tree within the limits, it is what an image may hold (`lawful`). Where it gives
 //!   none, no tree makes a standing of it (`none`).
+//! - An `Identity` is 16 bytes, as its type says (`is_identity`).
 #![tactic(auto)]
 
 mod error;
 mod event;
 mod index;
 mod laws;
+mod places;
+mod status;
 mod step;
 mod token;
 mod touch;
@@ -42,6 +49,7 @@ mod trail;
 pub use error::HistoryError;
 pub use event::Event;
 pub use laws::trail_laws;
+pub use status::{IDENTITY_LENGTH, Identity, ReplicaStatus, is_identity, status_laws};
 pub use step::TrailStep;
 pub use token::Token;
 pub use touch::Touch;

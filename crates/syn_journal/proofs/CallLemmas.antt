@@ -8,9 +8,9 @@ use Rattle.std.proofs.lemmas.Bool.Decides.{nat_tests}
 use Rattle.syn_disk.specs.Arms.{Arms as DiskArms, is_zero, is_stopped, is_refused, one_fewer}
 use Rattle.syn_disk.specs.Arms.{after_call}
 use Rattle.syn_disk.specs.Calls.{Makes}
-use Rattle.syn_headline.specs.Machine.{Arms, Down, Status, Up, Halted, IsBefore, after_calls, Meets}
-use Rattle.syn_headline.specs.Machine.{all_made, unarmed}
-use Rattle.syn_headline.specs.Machine.{one_fails, one_stops}
+use Rattle.syn_machine.specs.Machine.{Arms, Down, Status, Up, Halted, IsBefore, after_calls, Meets}
+use Rattle.syn_machine.specs.Machine.{all_made, unarmed}
+use Rattle.syn_machine.specs.Machine.{one_fails, one_stops}
 use Rattle.syn_journal.specs.Calls.{armed_at, CallsMeet, goes_on, goes_down, MadeCallsMeet}
 use Rattle.syn_journal.specs.Calls.{StopsAfter, BrokenCallsMeet, IsFree, MadeReadsMeet, StaysFree}
 

@@ -1,6 +1,6 @@
 -- What the bytes of a disk have, and how long they may be a machine's.
 use Rattle.std.proofs.Common.{◌≡◌, ◌-◌, ◌+◌, ℕ, Result, Ok, Err, length, sym, ap, ◌∙◌, arith}
-use Rattle.syn_headline.specs.Machine.{Arms, Journaled, Status, after_device, room_after}
+use Rattle.syn_machine.specs.Machine.{Arms, Journaled, Status, after_device, room_after}
 use Rattle.syn_journal.specs.Layout.{HasJournal, Value, bytes_left, generation_at, image_alone}
 use Rattle.syn_journal.specs.declared.half.Half.{Half}
 use Rattle.syn_model.specs.Path.{Bytes}

@@ -3,9 +3,9 @@ use Rattle.std.proofs.Common.{◌≡◌, ◌≢◌, ◌∙◌, ◌≤◌, ◌+�
 use Rattle.std.proofs.Common.{[], refl, sym, ap, subst, inl, inr, arith}
 use Rattle.std.proofs.lemmas.Option.{none-some}
 use Rattle.syn_disk.specs.declared.disk.Disk.{Ghosts}
-use Rattle.syn_headline.specs.Machine.{Arms, Meets, Status, Up, Halted, Down, room_after, unarmed}
-use Rattle.syn_headline.specs.Machine.{with_image}
-use Rattle.syn_headline.specs.Machine as model
+use Rattle.syn_machine.specs.Machine.{Arms, Meets, Status, Up, Halted, Down, room_after, unarmed}
+use Rattle.syn_machine.specs.Machine.{with_image}
+use Rattle.syn_machine.specs.Machine as model
 use Rattle.syn_journal.specs.Journal as journal
 use Rattle.syn_journal.specs.Layout.{IsBeforeOrAfter, image_alone}
 use Rattle.syn_model.specs.Path.{Bytes}

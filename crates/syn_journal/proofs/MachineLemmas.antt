@@ -2,8 +2,8 @@
 use Rattle.std.proofs.Common.{◌≡◌, ◌≢◌, ◌⊎◌, ◌-◌, refl, sym, ap, ap₂}
 use Rattle.std.proofs.Common.{subst, inl, inr}
 use Rattle.syn_disk.specs.declared.disk.Disk.{Ghosts}
-use Rattle.syn_headline.specs.Machine.{Status, Up, Halted, Down, record_size}
-use Rattle.syn_headline.specs.Machine as model
+use Rattle.syn_machine.specs.Machine.{Status, Up, Halted, Down, record_size}
+use Rattle.syn_machine.specs.Machine as model
 use Rattle.syn_journal.specs.Journal as journal
 use Rattle.syn_journal.specs.Layout.{Value, HasJournal, bytes_left, half_size}
 use Rattle.syn_journal.specs.declared.journal.Journal.{Journal}

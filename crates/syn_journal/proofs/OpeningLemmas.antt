@@ -2,8 +2,8 @@
 use Rattle.std.proofs.Common.{◌≡◌, ℕ, suc, [], ◌∷◌, sym, ap, ◌∙◌, refl, inl, inr, arith}
 use Rattle.syn_model.specs.Path.{Bytes}
 use Rattle.syn_journal.specs.Layout.{Value, image_alone, bytes_left}
-use Rattle.syn_headline.specs.Machine.{Journaled, Arms, opened, recovered, Meets, room_after}
-use Rattle.syn_headline.specs.Machine.{reopened, with_record as and_record, Up}
+use Rattle.syn_machine.specs.Machine.{Journaled, Arms, opened, recovered, Meets, room_after}
+use Rattle.syn_machine.specs.Machine.{reopened, with_record as and_record, Up}
 use Rattle.syn_journal.specs.Meaning.{Keeping, MayMean, as_kept, with_record, compacted, OpensTo}
 
 -- after an image alone stands no record

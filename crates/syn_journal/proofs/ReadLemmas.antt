@@ -4,8 +4,8 @@ use Rattle.std.proofs.Common.{Ok, Err, false, refl, sym, ap, subst, inl, inr}
 use Rattle.std.specs.Prelude.{IfErr, OnOk}
 use Rattle.syn_disk.specs.Arms.{is_stopped}
 use Rattle.syn_disk.specs.declared.disk.Disk.{Ghosts}
-use Rattle.syn_headline.specs.Machine.{Arms, Meets, Status, Up, Halted, Down, after_device, unarmed}
-use Rattle.syn_headline.specs.Machine as model
+use Rattle.syn_machine.specs.Machine.{Arms, Meets, Status, Up, Halted, Down, after_device, unarmed}
+use Rattle.syn_machine.specs.Machine as model
 use Rattle.syn_journal.specs.Journal as journal
 use Rattle.syn_journal.specs.Layout.{HasJournal, Value, meaning}
 use Rattle.syn_journal.specs.Refusals.{IsOpenRefusal, refusal_of}

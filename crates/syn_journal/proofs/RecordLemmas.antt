@@ -3,9 +3,9 @@ use Rattle.std.proofs.Common.{◌≡◌, ◌≢◌, ◌∙◌, ◌≤◌, ◌-�
 use Rattle.std.proofs.Common.{None, refl, sym, ap, subst, inl, inr}
 use Rattle.std.proofs.lemmas.Option.{none-some}
 use Rattle.syn_disk.specs.declared.disk.Disk.{Ghosts}
-use Rattle.syn_headline.specs.Machine.{Arms, IsBefore, Meets, Status, Up, Halted, Down, cut}
-use Rattle.syn_headline.specs.Machine.{record_size, unarmed, with_record}
-use Rattle.syn_headline.specs.Machine as model
+use Rattle.syn_machine.specs.Machine.{Arms, IsBefore, Meets, Status, Up, Halted, Down, cut}
+use Rattle.syn_machine.specs.Machine.{record_size, unarmed, with_record}
+use Rattle.syn_machine.specs.Machine as model
 use Rattle.syn_journal.specs.Layout.{IsBeforeOrAfter, LeftBehindPayload, bytes_left, with_payload}
 use Rattle.syn_model.specs.Path.{Bytes}
 use Rattle.syn_model.specs.Refusal as reasons

@@ -3,8 +3,8 @@ use Rattle.std.proofs.Common.{◌≡◌, ◌∙◌, ◌<◌, ◌^◌, ℕ, false
 use Rattle.std.proofs.Common.{subst, inl, inr}
 use Rattle.syn_disk.specs.Arms.{Arms as DiskArms, is_stopped}
 use Rattle.syn_disk.specs.declared.disk.Disk.{Ghosts}
-use Rattle.syn_headline.specs.Machine.{Meets, Status, Up, Halted, Down, unarmed}
-use Rattle.syn_headline.specs.Machine as model
+use Rattle.syn_machine.specs.Machine.{Meets, Status, Up, Halted, Down, unarmed}
+use Rattle.syn_machine.specs.Machine as model
 use Rattle.syn_journal.specs.declared.error.JournalError.{JournalError}
 use Rattle.syn_model.specs.Path.{Bytes}
 use Rattle.syn_model.specs.Refusal.{Refusal, Device, Memory}

@@ -3,8 +3,8 @@ use Rattle.std.specs.Prelude.{ℕ, true, false, ◌+◌, ◌≤◌, ◌≡◌}
 use Rattle.std.specs.Option.{option_map_or}
 use Rattle.syn_disk.specs.Arms.{Arms as DiskArms, is_stopped}
 use Rattle.syn_disk.specs.Calls.{Makes, MakesAtLeast, Breaks}
-use Rattle.syn_headline.specs.Machine.{Status, Up, Halted, Down, Arms, unarmed, Meets, IsBefore}
-use Rattle.syn_headline.specs.Machine.{Journaled}
+use Rattle.syn_machine.specs.Machine.{Status, Up, Halted, Down, Arms, unarmed, Meets, IsBefore}
+use Rattle.syn_machine.specs.Machine.{Journaled}
 
 -- what is armed at the machine of a disk that was not stopped yet
 abbrev pub armed_at : DiskArms → Arms

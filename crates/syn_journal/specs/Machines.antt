@@ -3,10 +3,10 @@ use Rattle.std.specs.Prelude.{◌≡◌, ◌≢◌, ◌⊎◌, ◌≤◌, ◌<�
 use Rattle.std.specs.Prelude.{◌∷◌, Option, Some, None}
 use Rattle.syn_disk.specs.Arms.{Arms as DiskArms, is_stopped}
 use Rattle.syn_disk.specs.declared.disk.Disk.{Ghosts}
-use Rattle.syn_headline.specs.Machine.{Arms, IsBefore, Meets, Opens, Status, Up, Halted, Down}
-use Rattle.syn_headline.specs.Machine.{after_device, cut, room_after, unarmed, with_image}
-use Rattle.syn_headline.specs.Machine.{with_record}
-use Rattle.syn_headline.specs.Machine as model
+use Rattle.syn_machine.specs.Machine.{Arms, IsBefore, Meets, Opens, Status, Up, Halted, Down}
+use Rattle.syn_machine.specs.Machine.{after_device, cut, room_after, unarmed, with_image}
+use Rattle.syn_machine.specs.Machine.{with_record}
+use Rattle.syn_machine.specs.Machine as model
 use Rattle.syn_journal.specs.Journal as journal
 use Rattle.syn_journal.specs.Layout.{Value}
 use Rattle.syn_model.specs.Path.{Bytes}

@@ -3,7 +3,7 @@
 use Rattle.std.specs.Prelude.{ℕ, suc, true, false, None, Some, ◌-◌, ◌≡◌, List}
 use Rattle.syn_model.specs.Path.{Bytes}
 use Rattle.syn_journal.specs.Layout.{Value, HasJournal, image_alone, bytes_left}
-use Rattle.syn_headline.specs.Machine.{Journaled, Layout, Arms, Opens, Up, record_size}
+use Rattle.syn_machine.specs.Machine.{Journaled, Layout, Arms, Opens, Up, record_size}
 
 -- How a kind of machine keeps its value: how its journal is written, what may be added to a value,
 -- and which image and payloads stand for one

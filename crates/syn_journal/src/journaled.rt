@@ -8,7 +8,7 @@ ghost use Rattle.syn_journal.specs.Journal as journal;
 ghost use Rattle.syn_journal.specs.Journal.{SameReadings};
 ghost use Rattle.syn_journal.specs.Layout.{Value, image_alone, longest_image};
 ghost use Rattle.syn_journal.specs.Refusals.{IsFormatRefusal};
-ghost use Rattle.syn_headline.specs.Machine as model;
+ghost use Rattle.syn_machine.specs.Machine as model;
 ghost use Rattle.syn_journal.specs.Endings.{Spends, ended};
 ghost use Rattle.syn_journal.specs.Openings.{IsOfJournal};
 ghost use Rattle.syn_model.specs.Refusal.{Device, Memory};

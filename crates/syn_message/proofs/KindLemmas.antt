@@ -1,7 +1,7 @@
 -- A request of a kind has the fields of that kind.
 use Rattle.std.proofs.Common.{◌≡◌, ◌≢◌, ◌++◌, ℕ, arith}
 use Rattle.std.specs.Int.{to_be_bytes, w32}
-use Rattle.syn_headline.specs.Side.{ListAt, Fetch, Replace}
+use Rattle.syn_machine.specs.Side.{ListAt, Fetch, Replace}
 use Rattle.syn_model.specs.Path.{Bytes, Path, IsPath, path_spelling}
 use Rattle.syn_message.specs.Bodies.{SpellsNone}
 use Rattle.syn_message.specs.Requests.{IsOfKind, fields_spelling, kind_of}

@@ -4,6 +4,7 @@ mod HeadLemmas
 mod KindLemmas
 mod ListingLemmas
 mod RefusalLemmas
+mod StatusLemmas
 mod UserReplyLemmas
 mod WholeLemmas
 mod UserRequestFieldsLemmas

@@ -1,7 +1,7 @@
 -- The body of a reply tells it.
 use Rattle.std.proofs.Common.{◌≡◌, ◌∙◌, ◌<◌, ◌^◌, ap, ap₂, arith, refl}
 use Rattle.std.specs.Int.{to_be_bytes, w64}
-use Rattle.syn_headline.specs.Side.{Reply, Begun, Listed, NotDir, Piece, Staged, Done, Refused}
+use Rattle.syn_machine.specs.Side.{Reply, Begun, Listed, NotDir, Piece, Staged, Done, Refused}
 use Rattle.syn_model.specs.Path.{Bytes}
 use Rattle.syn_message.proofs.HeadLemmas.{body_tells}
 use Rattle.syn_message.proofs.ListingLemmas.{listing_tells}

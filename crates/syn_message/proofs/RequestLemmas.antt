@@ -1,8 +1,8 @@
 -- The body of a request tells it.
 use Rattle.std.proofs.Common.{◌≡◌, ◌∙◌, ◌<◌, ◌^◌, ap, ap₂, arith}
 use Rattle.std.specs.Int.{to_be_bytes, w32, w64}
-use Rattle.syn_headline.specs.Side.{Request, Begin, ListAt, Fetch, Stage, Replace}
-use Rattle.syn_headline.specs.Side.{IsLawfulBody, IsPieceBytes}
+use Rattle.syn_machine.specs.Side.{Request, Begin, ListAt, Fetch, Stage, Replace}
+use Rattle.syn_machine.specs.Side.{IsLawfulBody, IsPieceBytes}
 use Rattle.syn_model.specs.Path.{Bytes, IsPath, path_spelling}
 use Rattle.syn_message.proofs.HeadLemmas.{body_tells}
 use Rattle.syn_message.proofs.WholeLemmas.{alone}

@@ -8,8 +8,10 @@ use Rattle.syn_model.specs.Version.{Two}
 use Rattle.syn_model.proofs.ToldSpellings.{contents_tell}
 use Rattle.syn_message.proofs.HeadLemmas.{body_tells}
 use Rattle.syn_message.proofs.RefusalLemmas.{number_tells}
+use Rattle.syn_message.proofs.StatusLemmas.{stated_tells}
 use Rattle.syn_message.proofs.WholeLemmas.{alone, first_of, rest_of}
-use Rattle.syn_message.specs.UserReplies.{UserReply, Edited, Got, Refused, UserReplyMessage}
+use Rattle.syn_message.specs.UserReplies.{UserReply, Edited, Got, States, Refused}
+use Rattle.syn_message.specs.UserReplies.{UserReplyMessage}
 use Rattle.syn_message.specs.UserReplies.{IsLawfulUserReplyMessage}
 use Rattle.syn_message.specs.UserReplies.{IsFound, IsLawfulUserReply, IsWithinFile, found_spelling}
 use Rattle.syn_message.specs.UserReplies.{user_reply_spelling, user_reply_fields, user_reply_kind}
@@ -45,6 +47,9 @@ module _ (u32 : NoU32BeginsAnother) (u64 : NoU64BeginsAnother) where
   fields_tell (Edited position) (Edited position') p q kind same =
       ap Edited (alone (λ n. n < 2 ^ 64) (to_be_bytes w64) u64 position position' p q same)
   fields_tell (Got found) (Got found') p q kind same = ap Got (found_tells found found' p q same)
+  fields_tell (States identity status) (States identity' status') p q kind same =
+      ap (λ stated. States stated.0 stated.1)
+      (stated_tells (identity, status) (identity', status') p q same)
   fields_tell (Refused why) (Refused why') p q kind same =
       ap Refused (number_tells why why' (ap first_of same))
   fields_tell a b p q kind same =

@@ -1,11 +1,12 @@
 -- The body of a user's request tells it.
-use Rattle.std.proofs.Common.{◌≡◌, [], ap, ap₂, arith}
+use Rattle.std.proofs.Common.{◌≡◌, ◌<◌, ◌^◌, [], ap, ap₂, arith}
+use Rattle.std.specs.Int.{to_be_bytes, w64}
 use Rattle.syn_model.specs.Event.{Event, Edited, Began, Replaced}
 use Rattle.syn_model.specs.Path.{IsPath, path_spelling}
 use Rattle.syn_model.specs.Spelling.{event_spelling}
 use Rattle.syn_message.proofs.HeadLemmas.{body_tells}
 use Rattle.syn_message.proofs.WholeLemmas.{alone}
-use Rattle.syn_message.specs.Users.{UserRequest, UserRequestMessage, Edits, Gets}
+use Rattle.syn_message.specs.Users.{UserRequest, UserRequestMessage, AsksStatus, Edits, Gets}
 use Rattle.syn_message.specs.Users.{IsLawfulUserRequest, IsLawfulUserRequestMessage}
 use Rattle.syn_message.specs.Users.{user_request_fields, user_request_kind, user_request_spelling}
 use Rattle.syn_model.specs.Version.{Two}
@@ -29,6 +30,8 @@ module _ (u32 : NoU32BeginsAnother) (u64 : NoU64BeginsAnother) (paths : NoPathBe
       (Edited user' edit') p q same)
   fields_tell (Gets path) (Gets path') p q kind same =
       ap Gets (alone IsPath path_spelling paths path path' p q same)
+  fields_tell (AsksStatus place) (AsksStatus place') p q kind same =
+      ap AsksStatus (alone (λ n. n < 2 ^ 64) (to_be_bytes w64) u64 place place' p q same)
   fields_tell a b p q kind same =
       absurd (let k : user_request_kind a ≡ user_request_kind b = kind in omega (arith, k))
 

@@ -3,6 +3,7 @@ pub mod Listings
 pub mod Requests
 pub mod Replies
 pub mod Users
+pub mod Statuses
 pub mod UserReplies
 pub mod Laws
 pub mod inner

@@ -1,7 +1,7 @@
 -- How a reply of a side is spelled.
 use Rattle.std.specs.Prelude.{◌≡◌, ◌≤◌, ◌<◌, ◌^◌, ℕ, [], ◌∷◌, ◌++◌, length, Result}
 use Rattle.std.specs.Int.{to_be_bytes, w32, w64}
-use Rattle.syn_headline.specs.Side as model
+use Rattle.syn_machine.specs.Side as model
 use Rattle.syn_model.specs.Limits.{greatest_piece}
 use Rattle.syn_model.specs.Event.{AreBytes}
 use Rattle.syn_model.specs.Path.{Bytes}

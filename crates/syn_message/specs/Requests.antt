@@ -1,8 +1,8 @@
 -- How a request of a coordinator is spelled.
 use Rattle.std.specs.Prelude.{◌≡◌, ◌<◌, ◌^◌, ℕ, ◌++◌, Result}
 use Rattle.std.specs.Int.{to_be_bytes, w32, w64}
-use Rattle.syn_headline.specs.Side.{IsLawfulBody}
-use Rattle.syn_headline.specs.Side as model
+use Rattle.syn_machine.specs.Side.{IsLawfulBody}
+use Rattle.syn_machine.specs.Side as model
 use Rattle.syn_model.specs.Path.{Bytes, path_spelling}
 use Rattle.syn_message.specs.Bodies.{ReadsWhole, body_spelling}
 use Rattle.syn_message.specs.declared.kind.TheConstants.{BEGIN, LIST, FETCH, STAGE, REPLACE}

@@ -1,3 +1,4 @@
 -- Definitions that no public clause reaches.
 pub mod Heads
 pub mod Listed
+pub mod Stated

@@ -21,6 +21,9 @@ pub const EDIT: u8 = 0x11;
 /// A user reads what stands at a path.
 pub const GET: u8 = 0x12;
 
+/// A user asks where the replica is in its history.
+pub const STATUS: u8 = 0x13;
+
 /// A session has begun.
 pub const BEGUN: u8 = 0x81;
 
@@ -47,3 +50,6 @@ pub const EDITED: u8 = 0x91;
 
 /// What stands at a path, to a user.
 pub const GOT: u8 = 0x92;
+
+/// Where the replica is in its history, to a user.
+pub const STATED: u8 = 0x93;

@@ -14,9 +14,12 @@
 //!   product's numbers.
 //! - `decode_user_request` and `encode_user_request` are the same for what a user asks of a served
 //!   replica, and `decode_user_reply` and `encode_user_reply` for what a user is told. Their
-//!   session is 0.
+//!   session is 0. A reply that tells where a replica is has its identity of 16 bytes, if it has
+//!   one, and a lawful status.
 //! - No two messages of one kind of these four have one body (`message_laws`), so what was written
 //!   is read again.
+//! - `write_stated` and `read_stated` spell and read an identity with a status by themselves, as
+//!   they stand in a reply to a user (`Reads`).
 //! - `Request::copy` and `Reply::copy` give an equal message.
 #![tactic(auto)]
 
@@ -32,6 +35,8 @@ mod reply_reading;
 mod request;
 mod request_reading;
 mod staged_piece;
+mod status;
+mod status_reading;
 mod user;
 mod user_reading;
 mod user_reply;
@@ -43,6 +48,8 @@ pub use reply_reading::decode_reply;
 pub use request::{Request, RequestMessage, encode_request};
 pub use request_reading::decode_request;
 pub use staged_piece::StagedPiece;
+pub use status::write_stated;
+pub use status_reading::read_stated;
 pub use syn_wire::LONGEST_PIECE;
 pub use user::{UserRequest, UserRequestMessage, encode_user_request};
 pub use user_reading::decode_user_request;

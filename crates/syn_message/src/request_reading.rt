@@ -5,7 +5,7 @@ ghost use Rattle.syn_message.specs.Requests.{IsLawfulRequestMessage, ReadsFields
 ghost use Rattle.syn_message.specs.Requests.{request_message_of};
 ghost use Rattle.syn_message.specs.Requests.{request_spelling};
 ghost use Rattle.syn_message.specs.inner.Heads.{ReadsLast};
-ghost use Rattle.syn_headline.specs.Side.{IsPieceBytes};
+ghost use Rattle.syn_machine.specs.Side.{IsPieceBytes};
 ghost use Rattle.syn_wire.specs.Events.{file_spelling};
 
 use crate::head::read_head;

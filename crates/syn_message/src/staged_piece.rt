@@ -1,6 +1,6 @@
 //! What is staged at a time.
 ghost use Rattle.std.specs.Prelude.{◌≡◌, ◌≤◌, length, IfOk};
-ghost use Rattle.syn_headline.specs.Side.{IsPieceBytes};
+ghost use Rattle.syn_machine.specs.Side.{IsPieceBytes};
 ghost use Rattle.syn_model.specs.Limits.{greatest_piece};
 
 use std::alloc::AllocError;
@@ -15,7 +15,7 @@ pub struct StagedPiece {
 
 impl Model for StagedPiece {
     ghost use Rattle.std.specs.Prelude.{List, ℕ};
-    ghost use Rattle.syn_headline.specs.Side.{IsPieceBytes};
+    ghost use Rattle.syn_machine.specs.Side.{IsPieceBytes};
 
     ghost Value = { List ℕ };
 

@@ -5,11 +5,11 @@ ghost use Rattle.syn_message.specs.Users.{user_request_of, user_request_message_
 ghost use Rattle.syn_message.specs.Users.{user_request_spelling};
 
 use crate::head::write_head;
-use crate::kind::{EDIT, GET};
+use crate::kind::{EDIT, GET, STATUS};
 use std::alloc::Global;
 use syn_path::Path;
 use syn_tree::Edit;
-use syn_wire::{WireError, encode_edit, write_path};
+use syn_wire::{WireError, encode_edit, write_path, write_u64};
 
 /// What a user asks of a served replica.
 #[derive(Debug, Drop)]
@@ -18,6 +18,8 @@ pub enum UserRequest {
     Edit { user: u32, edit: Edit },
     /// What stands at the path.
     Get { path: Path },
+    /// Where the replica is in its history, and which path the event at the place touched.
+    Status { place: u64 },
 }
 
 impl UserRequest {
@@ -28,6 +30,7 @@ impl UserRequest {
         match self {
             UserRequest::Edit { .. } => EDIT,
             UserRequest::Get { .. } => GET,
+            UserRequest::Status { .. } => STATUS,
         }
     }
 }
@@ -54,6 +57,7 @@ pub fn encode_user_request(alloc: Global, asked: &UserRequestMessage) -> Result<
             body.extend_from_slice(&encode_edit(alloc, *user, edit)?)?;
         }
         UserRequest::Get { path } => write_path(&mut body, path)?,
+        UserRequest::Status { place } => write_u64(&mut body, *place)?,
     }
     Ok(body)
 }

@@ -6,7 +6,7 @@ ghost use Rattle.syn_message.specs.Users.{user_request_spelling};
 ghost use Rattle.syn_message.specs.inner.Heads.{ReadsUserRequest};
 
 use crate::head::read_user_head;
-use crate::kind::{EDIT, GET};
+use crate::kind::{EDIT, GET, STATUS};
 use crate::user::{UserRequest, UserRequestMessage};
 use std::alloc::Global;
 use syn_history::Event;
@@ -50,6 +50,7 @@ fn read_user_fields(
     match kind {
         EDIT => read_edit(reader, alloc),
         GET => read_get(reader, alloc),
+        STATUS => read_place(reader),
         _ => Err(ReadError::Malformed),
     }
 }
@@ -73,4 +74,13 @@ fn read_get(reader: &mut Reader<'_>, alloc: Global) -> Result<UserRequest, ReadE
     let path = reader.path(alloc)?;
     reader.end()?;
     Ok(UserRequest::Get { path })
+}
+
+fn read_place(reader: &mut Reader<'_>) -> Result<UserRequest, ReadError>
+    ensures { ReadsUserRequest STATUS reader.old result }
+{
+    spelling_laws();
+    let place = reader.u64()?;
+    reader.end()?;
+    Ok(UserRequest::Status { place })
 }

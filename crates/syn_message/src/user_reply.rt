@@ -6,8 +6,10 @@ ghost use Rattle.syn_message.specs.UserReplies.{found_spelling, user_reply_spell
 ghost use Rattle.syn_tree.specs.Contents.{content_of};
 
 use crate::head::write_head;
-use crate::kind::{EDITED, GOT, REFUSED};
+use crate::kind::{EDITED, GOT, REFUSED, STATED};
+use crate::status::write_stated;
 use std::alloc::Global;
+use syn_history::{Identity, ReplicaStatus};
 use syn_refusal::Refusal;
 use syn_tree::Content;
 use syn_wire::{ABSENT, DIRECTORY, FILE, WireError, write_contents, write_u64};
@@ -16,9 +18,18 @@ use syn_wire::{ABSENT, DIRECTORY, FILE, WireError, write_contents, write_u64};
 #[derive(Debug, Drop)]
 pub enum UserReply {
     /// The edit is made, and this is the new position.
-    Edited { position: u64 },
+    Edited {
+        position: u64,
+    },
     /// What stands at the path, if anything does. A file has at most 16,384 bytes.
-    Got { found: Option<Content> },
+    Got {
+        found: Option<Content>,
+    },
+    /// Where the replica is in its history, and what its disk is known by, if it is by anything.
+    Status {
+        identity: Option<Identity>,
+        status: ReplicaStatus,
+    },
     /// The request is refused.
     Refused(Refusal),
 }
@@ -47,6 +58,10 @@ pub fn encode_user_reply(alloc: Global, answered: &UserReplyMessage) -> Result<V
         UserReply::Got { found } => {
             write_head(&mut body, GOT, 0, answered.number)?;
             write_found(&mut body, found.as_ref())?;
+        }
+        UserReply::Status { identity, status } => {
+            write_head(&mut body, STATED, 0, answered.number)?;
+            write_stated(&mut body, *identity, status)?;
         }
         UserReply::Refused(why) => {
             write_head(&mut body, REFUSED, 0, answered.number)?;

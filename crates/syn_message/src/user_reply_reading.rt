@@ -10,8 +10,9 @@ ghost use Rattle.syn_tree.specs.Contents.{content_of};
 ghost use Rattle.syn_tree.specs.Modes.{mode_of};
 
 use crate::head::read_user_head;
-use crate::kind::{EDITED, GOT, REFUSED};
+use crate::kind::{EDITED, GOT, REFUSED, STATED};
 use crate::reply_reading::read_refusal;
+use crate::status_reading::read_whole_stated;
 use crate::user_reply::{UserReply, UserReplyMessage};
 use std::alloc::Global;
 use syn_tree::{Content, LONGEST_FILE, Mode};
@@ -51,6 +52,7 @@ fn read_user_reply_fields(
     match kind {
         EDITED => read_edited(reader),
         GOT => read_got(reader, alloc),
+        STATED => read_status_reply(reader, alloc),
         REFUSED => read_refused(reader),
         _ => Err(ReadError::Malformed),
     }
@@ -70,6 +72,13 @@ fn read_got(reader: &mut Reader<'_>, alloc: Global) -> Result<UserReply, ReadErr
 {
     let found = read_found(reader, alloc)?;
     Ok(UserReply::Got { found })
+}
+
+fn read_status_reply(reader: &mut Reader<'_>, alloc: Global) -> Result<UserReply, ReadError>
+    ensures { ReadsUserReply STATED reader.old result }
+{
+    let (identity, status) = read_whole_stated(reader, alloc)?;
+    Ok(UserReply::Status { identity, status })
 }
 
 fn read_refused(reader: &mut Reader<'_>) -> Result<UserReply, ReadError>

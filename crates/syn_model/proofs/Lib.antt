@@ -18,6 +18,7 @@ pub mod SpellingLemmas
 pub mod KeyLemmas
 pub mod MarkLemmas
 pub mod QuietLemmas
+pub mod ShownLemmas
 pub mod RowLemmas
 pub mod PlanOrder
 pub mod DirectoryLemmas

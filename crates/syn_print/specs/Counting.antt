@@ -1,6 +1,6 @@
 -- How many items of each kind a plan has.
 use Rattle.std.specs.Prelude.{ℕ, List, count_by, is_some}
-use Rattle.syn_headline.specs.Report.{conflict_at, is_carrying, is_marking}
+use Rattle.syn_machine.specs.Report.{conflict_at, is_carrying, is_marking}
 use Rattle.syn_recon.specs.Items.{item_of}
 use Rattle.syn_recon.specs.declared.item.Item.{Item as Planned}
 

@@ -3,7 +3,7 @@ use Rattle.std.specs.Prelude.{ℕ, Bool, List, [], ◌∷◌, length, map, flat_
 use Rattle.std.specs.Prelude.{Option, Some, None, if◌then◌else◌}
 use Rattle.std.specs.Fmt.{decimal}
 use Rattle.std.specs.Ordering.{is_lt}
-use Rattle.syn_headline.specs.Report.{Report, End, Complete, Incomplete}
+use Rattle.syn_machine.specs.Report.{Report, End, Complete, Incomplete}
 use Rattle.syn_model.specs.Path.{Path, path_cmp}
 use Rattle.syn_model.specs.Refusal.{Refusal, number}
 use Rattle.syn_path.specs.Paths.{printed_form}

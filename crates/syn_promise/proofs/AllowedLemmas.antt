@@ -5,17 +5,17 @@ use Rattle.std.proofs.lemmas.List.Elements.{filter_map-append}
 use Rattle.syn_model.specs.Event.{Event}
 use Rattle.syn_model.specs.History.{History, IsHistory, IsAllowed}
 use Rattle.syn_model.specs.Archive.{Kept}
-use Rattle.syn_headline.specs.Network.{Which, Left, Right}
-use Rattle.syn_headline.specs.Acknowledged.{Ack, Happened, Kept_by, Stores, kept_in, history_of}
-use Rattle.syn_headline.specs.Acknowledged.{stores_after, event_at}
-use Rattle.syn_headline.specs.Picture.{Picture, SessionPicture, AllCanKeep, CoordinatorGoes}
-use Rattle.syn_headline.specs.Planning.{Log}
-use Rattle.syn_headline.specs.Headline.{StandsFor}
-use Rattle.syn_headline.proofs.CourseLemmas.{Course, beside, starts, ticks, takes}
-use Rattle.syn_headline.proofs.KeptLemmas.{can-append, can-parts}
-use Rattle.syn_headline.proofs.TokenLemmas.{after_front}
-use Rattle.syn_headline.proofs.WorldLemmas.{kept_kept}
-use Rattle.syn_promise.specs.Records.{IsAllowedBy}
+use Rattle.syn_machine.specs.Network.{Which, Left, Right}
+use Rattle.syn_runs.specs.Acknowledged.{Ack, Happened, Kept_by, Stores, kept_in, history_of}
+use Rattle.syn_runs.specs.Acknowledged.{stores_after, event_at}
+use Rattle.syn_runs.specs.Picture.{Picture, SessionPicture, AllCanKeep, CoordinatorGoes}
+use Rattle.syn_machine.specs.Planning.{Log}
+use Rattle.syn_runs.specs.Headline.{StandsFor}
+use Rattle.syn_runs.proofs.CourseLemmas.{Course, beside, starts, ticks, takes}
+use Rattle.syn_runs.proofs.KeptLemmas.{can-append, can-parts}
+use Rattle.syn_runs.proofs.TokenLemmas.{after_front}
+use Rattle.syn_runs.proofs.WorldLemmas.{kept_kept}
+use Rattle.syn_promise.specs.Laws.{IsAllowedBy}
 use Rattle.syn_promise.proofs.SessionLemmas.{history_more}
 
 -- An event
@@ -31,11 +31,6 @@ own_first : (side : Which) (event : Event) (later : List Ack) →
     ≡ event ∷ filter_map (event_at side) later
 own_first Left event later = refl
 own_first Right event later = refl
-
--- one that was cut off
-pub allowed_back : (history now : History) (event : Event) → IsHistory now →
-    now ≡ history ++ event ∷ [] → IsAllowed history event
-allowed_back history now event h e = allowed_in now history [] event h e
 
 -- What the archive keeps
 

@@ -18,42 +18,42 @@ use Rattle.syn_model.specs.Archive.{Archive, Kept, Session, Recorded, RecordedDi
 use Rattle.syn_model.specs.Decision.{Item, ToLeft, ToRight, MarkSame, MarkDir, Conflict, path_of}
 use Rattle.syn_model.specs.Plan.{plan as items_of}
 use Rattle.syn_model.proofs.PlanOrder.{plan_is_orderly}
-use Rattle.syn_headline.specs.Machine.{Status, Up, Halted, Down}
-use Rattle.syn_headline.specs.MachineSteps.{MachineCall}
-use Rattle.syn_headline.specs.MachineSteps as one
-use Rattle.syn_headline.specs.Network.{Which, Left, Right, Message}
-use Rattle.syn_headline.specs.Side.{Reply}
-use Rattle.syn_headline.specs.SideMachine.{SideMachine}
-use Rattle.syn_headline.specs.Planning.{Planned, SessionPlan, Log, WritesTo}
-use Rattle.syn_headline.specs.Acknowledged.{Ack, Happened, Kept_by, kept_in_session}
-use Rattle.syn_headline.specs.Report.{Report, is_kept, is_record_of}
-use Rattle.syn_headline.specs.Session.{HasPlan, MakesPlan, makes}
-use Rattle.syn_headline.specs.Session as session
-use Rattle.syn_headline.specs.Coordinator.{Exchange, Running, Walk, Advances, past, refusing}
-use Rattle.syn_headline.specs.Coordinator.{stands, conflicts, side_refuses, archive_refuses}
-use Rattle.syn_headline.specs.Coordinator.{no_checkpoint, checkpoints, checkpoint_breaks, keeps}
-use Rattle.syn_headline.specs.Coordinator.{record_breaks, making_room, IsDue, done, same, directory}
-use Rattle.syn_headline.specs.Coordinator.{CoordinatorMachine, Call, no_call, plan_of, report_of}
-use Rattle.syn_headline.specs.Coordinator.{Takes, ends_at_once, stops, ends, goes_on, start_of}
-use Rattle.syn_headline.specs.Coordinator.{CoordinatorTakes, takes, ignores, CoordinatorTicks}
-use Rattle.syn_headline.specs.Coordinator.{no_session, resends, gives_up, CoordinatorStarts, starts}
-use Rattle.syn_headline.specs.Coordinator.{start_breaks, hearing, start_causes, coordinator_kind}
-use Rattle.syn_headline.specs.Coordinator.{running_after, with_archive}
-use Rattle.syn_headline.specs.World.{World, Machine, At, Coordinator, Step, Edits, Start, Deliver}
-use Rattle.syn_headline.specs.World.{Tick, Checkpoint, Fail, Stop, Open, Reopen, Steps, Runs}
-use Rattle.syn_headline.specs.World.{side_does, coordinator_does, side_goes, coordinator_goes}
-use Rattle.syn_headline.specs.World.{refuses_with, Delivers, no_message, to_no_side, to_side}
-use Rattle.syn_headline.specs.World.{to_coordinator, MachineDoes, ticks}
-use Rattle.syn_headline.specs.Runs.{IsStart, picture_of}
-use Rattle.syn_headline.proofs.Invariant.{Plans, IsKept}
-use Rattle.syn_headline.proofs.Sessions.{IsHeard}
-use Rattle.syn_headline.proofs.HeardLemmas.{list_of, session_keeps}
-use Rattle.syn_headline.proofs.Walks.{advances_due, keeps_due}
-use Rattle.syn_headline.proofs.MachineLemmas.{calls_leave, does_leave}
-use Rattle.syn_headline.proofs.Simulation.{step_follows}
-use Rattle.syn_headline.proofs.AdvanceLemmas.{step_advances}
-use Rattle.syn_headline.proofs.WholeRuns.{no_plans, start_kept}
-use Rattle.syn_headline.proofs.FineRuns.{start_view}
+use Rattle.syn_machine.specs.Machine.{Status, Up, Halted, Down}
+use Rattle.syn_machine.specs.MachineSteps.{MachineCall}
+use Rattle.syn_machine.specs.MachineSteps as one
+use Rattle.syn_machine.specs.Network.{Which, Left, Right, Message}
+use Rattle.syn_machine.specs.Side.{Reply}
+use Rattle.syn_machine.specs.SideMachine.{SideMachine}
+use Rattle.syn_machine.specs.Planning.{Planned, SessionPlan, Log, WritesTo}
+use Rattle.syn_runs.specs.Acknowledged.{Ack, Happened, Kept_by, kept_in_session}
+use Rattle.syn_machine.specs.Report.{Report, is_kept, is_record_of}
+use Rattle.syn_machine.specs.Session.{HasPlan, MakesPlan, makes}
+use Rattle.syn_machine.specs.Session as session
+use Rattle.syn_machine.specs.Coordinator.{Exchange, Running, Walk, Advances, past, refusing}
+use Rattle.syn_machine.specs.Coordinator.{stands, conflicts, side_refuses, archive_refuses}
+use Rattle.syn_machine.specs.Coordinator.{no_checkpoint, checkpoints, checkpoint_breaks, keeps}
+use Rattle.syn_machine.specs.Coordinator.{record_breaks, making_room, IsDue, done, same, directory}
+use Rattle.syn_machine.specs.Coordinator.{CoordinatorMachine, Call, no_call, plan_of, report_of}
+use Rattle.syn_machine.specs.Coordinator.{Takes, ends_at_once, stops, ends, goes_on, start_of}
+use Rattle.syn_machine.specs.Coordinator.{CoordinatorTakes, takes, ignores, CoordinatorTicks}
+use Rattle.syn_machine.specs.Coordinator.{no_session, resends, gives_up, CoordinatorStarts, starts}
+use Rattle.syn_machine.specs.Coordinator.{start_breaks, hearing, start_causes, coordinator_kind}
+use Rattle.syn_machine.specs.Coordinator.{running_after, with_archive}
+use Rattle.syn_runs.specs.World.{World, Machine, At, Coordinator, Step, Edits, Start, Deliver}
+use Rattle.syn_runs.specs.World.{Tick, Checkpoint, Fail, Stop, Open, Reopen, Steps, Runs}
+use Rattle.syn_runs.specs.World.{side_does, coordinator_does, side_goes, coordinator_goes}
+use Rattle.syn_runs.specs.World.{refuses_with, Delivers, no_message, to_no_side, to_side}
+use Rattle.syn_runs.specs.World.{to_coordinator, MachineDoes, ticks}
+use Rattle.syn_runs.specs.Runs.{IsStart, picture_of}
+use Rattle.syn_runs.proofs.Invariant.{Plans, IsKept}
+use Rattle.syn_runs.proofs.Sessions.{IsHeard}
+use Rattle.syn_runs.proofs.HeardLemmas.{list_of, session_keeps}
+use Rattle.syn_runs.proofs.Walks.{advances_due, keeps_due}
+use Rattle.syn_runs.proofs.MachineLemmas.{calls_leave, does_leave}
+use Rattle.syn_runs.proofs.Simulation.{step_follows}
+use Rattle.syn_runs.proofs.AdvanceLemmas.{step_advances}
+use Rattle.syn_runs.proofs.WholeRuns.{no_plans, start_kept}
+use Rattle.syn_runs.proofs.FineRuns.{start_view}
 use Rattle.syn_model.proofs.BaseLemmas.{contains_none, contains_one}
 
 -- What was recorded and refused

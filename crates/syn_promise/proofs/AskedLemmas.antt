@@ -11,30 +11,30 @@ use Rattle.syn_model.specs.Refusal.{Refusal}
 use Rattle.syn_model.specs.Event.{Edit, Event, Edited, Began, Replaced}
 use Rattle.syn_model.specs.History.{History}
 use Rattle.syn_model.specs.Archive.{Kept}
-use Rattle.syn_headline.specs.Machine.{Status, Up, Halted}
-use Rattle.syn_headline.specs.Side.{Side, Served, Request, IsLawfulRequest}
-use Rattle.syn_headline.specs.Network.{Which, Left, Right, Message, Asks, Answers}
-use Rattle.syn_headline.specs.Planning.{Planned, SessionPlan, Log}
-use Rattle.syn_headline.specs.Acknowledged.{Ack, Happened, Kept_by}
-use Rattle.syn_headline.specs.World.{Machine, At, Coordinator, Step, Edits, Start, Deliver}
-use Rattle.syn_headline.specs.World.{Tick}
-use Rattle.syn_headline.specs.Picture.{Picture, SidePicture, SessionPicture, side_of, set_side}
-use Rattle.syn_headline.specs.Picture.{Follows, FollowsAll, nothing_more, one_more, CoordinatorGoes}
-use Rattle.syn_headline.specs.Picture.{TakesRequest, answered, request_failed, request_cut}
-use Rattle.syn_headline.specs.Picture.{GoesOnFrom, ended, goes_on, HasPlan, IsExpected, StartsFrom}
-use Rattle.syn_headline.specs.Picture as picture
-use Rattle.syn_headline.specs.Headline.{IsStart}
-use Rattle.syn_headline.proofs.OutcomeLemmas.{Outcome, refuses, begins_again, begins, lists}
-use Rattle.syn_headline.proofs.OutcomeLemmas.{lists_none, fetches, stages_first, stages_more}
-use Rattle.syn_headline.proofs.OutcomeLemmas.{stages_again, done_again, replaces, outcome}
-use Rattle.syn_headline.proofs.OutcomeLemmas.{any_outcome}
-use Rattle.syn_headline.proofs.Invariant.{Plans, IsKept}
-use Rattle.syn_headline.proofs.Heard.{sent_at}
-use Rattle.syn_headline.proofs.SideSteps.{if_some}
-use Rattle.syn_headline.proofs.View.{halted_not_up, down_not_up}
-use Rattle.syn_headline.proofs.SettledLemmas.{running_or_none}
-use Rattle.syn_headline.proofs.AdvanceLemmas.{step_advances}
-use Rattle.syn_headline.proofs.WholeRuns.{no_plans, start_kept}
+use Rattle.syn_machine.specs.Machine.{Status, Up, Halted}
+use Rattle.syn_machine.specs.Side.{Side, Served, Request, IsLawfulRequest}
+use Rattle.syn_machine.specs.Network.{Which, Left, Right, Message, Asks, Answers}
+use Rattle.syn_machine.specs.Planning.{Planned, SessionPlan, Log}
+use Rattle.syn_runs.specs.Acknowledged.{Ack, Happened, Kept_by}
+use Rattle.syn_runs.specs.World.{Machine, At, Coordinator, Step, Edits, Start, Deliver}
+use Rattle.syn_runs.specs.World.{Tick}
+use Rattle.syn_runs.specs.Picture.{Picture, SidePicture, SessionPicture, side_of, set_side}
+use Rattle.syn_runs.specs.Picture.{Follows, FollowsAll, nothing_more, one_more, CoordinatorGoes}
+use Rattle.syn_runs.specs.Picture.{TakesRequest, answered, request_failed, request_cut}
+use Rattle.syn_runs.specs.Picture.{GoesOnFrom, ended, goes_on, HasPlan, IsExpected, StartsFrom}
+use Rattle.syn_runs.specs.Picture as picture
+use Rattle.syn_runs.specs.Headline.{IsStart}
+use Rattle.syn_runs.proofs.OutcomeLemmas.{Outcome, refuses, begins_again, begins, lists}
+use Rattle.syn_runs.proofs.OutcomeLemmas.{lists_none, fetches, stages_first, stages_more}
+use Rattle.syn_runs.proofs.OutcomeLemmas.{stages_again, done_again, replaces, outcome}
+use Rattle.syn_runs.proofs.OutcomeLemmas.{any_outcome}
+use Rattle.syn_runs.proofs.Invariant.{Plans, IsKept}
+use Rattle.syn_machine.proofs.Heard.{sent_at}
+use Rattle.syn_runs.proofs.SideSteps.{if_some}
+use Rattle.syn_runs.proofs.View.{halted_not_up, down_not_up}
+use Rattle.syn_runs.proofs.SettledLemmas.{running_or_none}
+use Rattle.syn_runs.proofs.AdvanceLemmas.{step_advances}
+use Rattle.syn_runs.proofs.WholeRuns.{no_plans, start_kept}
 use Rattle.syn_promise.specs.Asked.{IsAskedEvent, IsAsked, EditsAreAsked, PreferencesAreAsked}
 use Rattle.syn_promise.specs.Asked.{EditsAreMade, StartsAreMade}
 

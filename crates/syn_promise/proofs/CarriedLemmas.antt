@@ -11,17 +11,17 @@ use Rattle.syn_model.specs.Tree.{Tree}
 use Rattle.syn_model.specs.Event.{Token, Event, Edited, Began, Replaced}
 use Rattle.syn_model.specs.History.{History, IsAllowed}
 use Rattle.syn_model.specs.Refusal.{Refusal}
-use Rattle.syn_headline.specs.Network.{Which, Left, Right}
-use Rattle.syn_headline.specs.World.{Step}
-use Rattle.syn_headline.specs.Acknowledged.{Ack, Happened, Kept_by, Stores, history_of, event_at}
-use Rattle.syn_headline.specs.Acknowledged.{stores_after}
-use Rattle.syn_headline.specs.Planning.{Log}
-use Rattle.syn_headline.specs.Picture.{Picture, Follows}
-use Rattle.syn_headline.specs.Headline.{StandsFor}
-use Rattle.syn_headline.proofs.Invariant.{Plans, IsKept, IsSoundReplacement, histories_of}
-use Rattle.syn_headline.proofs.Invariant.{IsSoundEvent}
-use Rattle.syn_headline.proofs.StagedLemmas.{Moves}
-use Rattle.syn_headline.proofs.AdvanceLemmas.{step_advances}
+use Rattle.syn_machine.specs.Network.{Which, Left, Right}
+use Rattle.syn_runs.specs.World.{Step}
+use Rattle.syn_runs.specs.Acknowledged.{Ack, Happened, Kept_by, Stores, history_of, event_at}
+use Rattle.syn_runs.specs.Acknowledged.{stores_after}
+use Rattle.syn_machine.specs.Planning.{Log}
+use Rattle.syn_runs.specs.Picture.{Picture, Follows}
+use Rattle.syn_runs.specs.Headline.{StandsFor}
+use Rattle.syn_runs.proofs.Invariant.{Plans, IsKept, IsSoundReplacement, histories_of}
+use Rattle.syn_runs.proofs.Invariant.{IsSoundEvent}
+use Rattle.syn_runs.proofs.StagedLemmas.{Moves}
+use Rattle.syn_runs.proofs.AdvanceLemmas.{step_advances}
 use Rattle.syn_promise.proofs.LeaveLemmas.{history_in}
 use Rattle.syn_promise.proofs.RecordLemmas.{entry_in}
 use Rattle.syn_promise.proofs.SessionLemmas.{history_more, stands_as, HasMarks}

@@ -14,40 +14,40 @@ use Rattle.syn_model.specs.Event.{Edit, Event, Edited}
 use Rattle.syn_model.specs.History.{event_causes, event_refusal}
 use Rattle.syn_model.specs.Archive.{Kept, Session, CanKeep}
 use Rattle.syn_model.proofs.HistoryLemmas.{first_cause-none, none-append}
-use Rattle.syn_headline.specs.Machine.{Status, Up, Halted, Down, idle, written}
-use Rattle.syn_headline.specs.Machine.{unwritten}
-use Rattle.syn_headline.specs.MachineSteps.{causes_at, is_halted, refused_by}
-use Rattle.syn_headline.specs.Side.{Side, Served, Serves, Request, IsLawfulRequest, room_causes}
-use Rattle.syn_headline.specs.Side.{Reply}
-use Rattle.syn_headline.specs.Laws.{AddsAllowed}
-use Rattle.syn_headline.specs.SideMachine.{SideMachine, side_kind, causes_of, EditsSide, edits}
-use Rattle.syn_headline.specs.SideMachine.{UserEdits, has_room_for, ServesAs}
-use Rattle.syn_headline.specs.Network.{Which, Left, Right, Message, Asks}
-use Rattle.syn_headline.specs.Coordinator.{CoordinatorMachine, Call, coordinator_kind, start_causes}
-use Rattle.syn_headline.specs.Coordinator.{CoordinatorStarts, starts, start_breaks, writes}
-use Rattle.syn_headline.specs.Coordinator.{cut_after, Starts}
-use Rattle.syn_headline.specs.World.{World, Machine, At, Coordinator, Step, Edits, Start, Deliver}
-use Rattle.syn_headline.specs.World.{Tick, Checkpoint, Fail, Stop, Open, Reopen, Steps, Runs}
-use Rattle.syn_headline.specs.World.{status_of, side_of, side_does, coordinator_does}
-use Rattle.syn_headline.specs.World as world
-use Rattle.syn_headline.specs.Runs.{IsStart, picture_of, stores_of}
-use Rattle.syn_headline.specs.Acknowledged.{Ack, Happened, Kept_by, Stores, history_of}
-use Rattle.syn_headline.specs.Acknowledged.{stores_after}
-use Rattle.syn_headline.specs.Planning.{Planned}
-use Rattle.syn_headline.specs.Picture.{Picture, Follows, SidePicture, set_side}
-use Rattle.syn_headline.specs.Picture as picture
-use Rattle.syn_headline.specs.Headline.{StandsFor}
-use Rattle.syn_headline.proofs.MachineLemmas.{calls_tell}
-use Rattle.syn_headline.proofs.OutcomeLemmas.{any_outcome, unless_up_same}
-use Rattle.syn_headline.proofs.SideLemmas.{serves_allowed}
-use Rattle.syn_headline.proofs.Invariant.{Plans, IsKept, IsHarmless, IsSoundEvent, histories_of}
-use Rattle.syn_headline.proofs.Heard.{sent_at}
-use Rattle.syn_headline.proofs.Sessions.{IsHeard}
-use Rattle.syn_headline.proofs.Simulation.{step_follows}
-use Rattle.syn_headline.proofs.AdvanceLemmas.{step_advances}
-use Rattle.syn_headline.proofs.WorldLemmas.{step_stands}
-use Rattle.syn_headline.proofs.WholeRuns.{no_plans, start_kept}
-use Rattle.syn_headline.proofs.FineRuns.{start_view}
+use Rattle.syn_machine.specs.Machine.{Status, Up, Halted, Down, idle, written}
+use Rattle.syn_machine.specs.Machine.{unwritten}
+use Rattle.syn_machine.specs.MachineSteps.{causes_at, is_halted, refused_by}
+use Rattle.syn_machine.specs.Side.{Side, Served, Serves, Request, IsLawfulRequest, room_causes}
+use Rattle.syn_machine.specs.Side.{Reply}
+use Rattle.syn_runs.specs.Laws.{AddsAllowed}
+use Rattle.syn_machine.specs.SideMachine.{SideMachine, side_kind, causes_of, EditsSide, edits}
+use Rattle.syn_machine.specs.SideMachine.{UserEdits, has_room_for, ServesAs}
+use Rattle.syn_machine.specs.Network.{Which, Left, Right, Message, Asks}
+use Rattle.syn_machine.specs.Coordinator.{CoordinatorMachine, Call, coordinator_kind, start_causes}
+use Rattle.syn_machine.specs.Coordinator.{CoordinatorStarts, starts, start_breaks, writes}
+use Rattle.syn_machine.specs.Coordinator.{cut_after, Starts}
+use Rattle.syn_runs.specs.World.{World, Machine, At, Coordinator, Step, Edits, Start, Deliver}
+use Rattle.syn_runs.specs.World.{Tick, Checkpoint, Fail, Stop, Open, Reopen, Steps, Runs}
+use Rattle.syn_runs.specs.World.{status_of, side_of, side_does, coordinator_does}
+use Rattle.syn_runs.specs.World as world
+use Rattle.syn_runs.specs.Runs.{IsStart, picture_of, stores_of}
+use Rattle.syn_runs.specs.Acknowledged.{Ack, Happened, Kept_by, Stores, history_of}
+use Rattle.syn_runs.specs.Acknowledged.{stores_after}
+use Rattle.syn_machine.specs.Planning.{Planned}
+use Rattle.syn_runs.specs.Picture.{Picture, Follows, SidePicture, set_side}
+use Rattle.syn_runs.specs.Picture as picture
+use Rattle.syn_runs.specs.Headline.{StandsFor}
+use Rattle.syn_runs.proofs.MachineLemmas.{calls_tell}
+use Rattle.syn_runs.proofs.OutcomeLemmas.{any_outcome, unless_up_same}
+use Rattle.syn_runs.proofs.SideLemmas.{serves_allowed}
+use Rattle.syn_runs.proofs.Invariant.{Plans, IsKept, IsHarmless, IsSoundEvent, histories_of}
+use Rattle.syn_machine.proofs.Heard.{sent_at}
+use Rattle.syn_runs.proofs.Sessions.{IsHeard}
+use Rattle.syn_runs.proofs.Simulation.{step_follows}
+use Rattle.syn_runs.proofs.AdvanceLemmas.{step_advances}
+use Rattle.syn_runs.proofs.WorldLemmas.{step_stands}
+use Rattle.syn_runs.proofs.WholeRuns.{no_plans, start_kept}
+use Rattle.syn_runs.proofs.FineRuns.{start_view}
 use Rattle.syn_promise.specs.Power.{On, Off, Turns}
 use Rattle.syn_promise.specs.Steps.{Comes, made, refused, edit_lost, start_lost, opened, was_open}
 use Rattle.syn_promise.specs.Steps.{reopening_lost, nothing, Come, no_step, one_more, MayRefuse}
@@ -65,7 +65,7 @@ use Rattle.syn_promise.proofs.CarriedLemmas.{IsCarried, step_carried}
 use Rattle.syn_promise.proofs.ReportedLemmas.{AllReported, course_reported, start_reported}
 use Rattle.syn_promise.proofs.SaidLemmas.{AllSaid, step_said, start_said}
 use Rattle.syn_promise.proofs.PlannedLemmas.{AllPlanned, WasPlanned, course_planned, unrecorded_in}
-use Rattle.syn_headline.proofs.CourseLemmas.{course}
+use Rattle.syn_runs.proofs.CourseLemmas.{course}
 
 -- Why a step is refused
 

@@ -11,30 +11,30 @@ use Rattle.syn_model.specs.Refusal.{Refusal}
 use Rattle.syn_model.specs.Event.{Edit, Event, Edited, Began}
 use Rattle.syn_model.specs.History.{History, IsAllowed, event_refusal}
 use Rattle.syn_model.specs.Archive.{Archive, Kept, Session, CanKeep, after_kept, archive_of}
-use Rattle.syn_headline.specs.Machine.{Status, Up, Halted, Down}
-use Rattle.syn_headline.specs.MachineSteps.{refused_by}
-use Rattle.syn_headline.specs.Side.{Side, Served, Request, Reply}
-use Rattle.syn_headline.specs.Network.{Which, Left, Right, Asks, Answers, Sent}
-use Rattle.syn_headline.specs.World.{Machine, At, Coordinator, Step, Edits, Start, Deliver, Tick}
-use Rattle.syn_headline.specs.Acknowledged.{Ack, Happened, Kept_by, history_of}
-use Rattle.syn_headline.specs.Planning.{Planned, Log}
-use Rattle.syn_headline.specs.Picture.{Picture, SidePicture, SessionPicture, CoordinatorPicture}
-use Rattle.syn_headline.specs.Picture.{Follows, CoordinatorGoes, TakesRequest, side_of, set_side}
-use Rattle.syn_headline.specs.Picture.{stores_of, IsNext, AllCanKeep, WouldAdd, IsDueAfter}
-use Rattle.syn_headline.specs.Picture as picture
-use Rattle.syn_headline.proofs.OutcomeLemmas.{Outcome, refuses, begins_again, begins, lists}
-use Rattle.syn_headline.proofs.OutcomeLemmas.{lists_none, fetches, stages_first, stages_more}
-use Rattle.syn_headline.proofs.OutcomeLemmas.{stages_again, done_again, replaces, outcome}
-use Rattle.syn_headline.proofs.Invariant.{Plans, IsKept}
-use Rattle.syn_headline.proofs.Heard.{sent_at}
-use Rattle.syn_headline.proofs.KeptLemmas.{session_next, sessions_grow}
+use Rattle.syn_machine.specs.Machine.{Status, Up, Halted, Down}
+use Rattle.syn_machine.specs.MachineSteps.{refused_by}
+use Rattle.syn_machine.specs.Side.{Side, Served, Request, Reply}
+use Rattle.syn_machine.specs.Network.{Which, Left, Right, Asks, Answers, Sent}
+use Rattle.syn_runs.specs.World.{Machine, At, Coordinator, Step, Edits, Start, Deliver, Tick}
+use Rattle.syn_runs.specs.Acknowledged.{Ack, Happened, Kept_by, history_of}
+use Rattle.syn_machine.specs.Planning.{Planned, Log}
+use Rattle.syn_runs.specs.Picture.{Picture, SidePicture, SessionPicture, CoordinatorPicture}
+use Rattle.syn_runs.specs.Picture.{Follows, CoordinatorGoes, TakesRequest, side_of, set_side}
+use Rattle.syn_runs.specs.Picture.{stores_of, IsNext, AllCanKeep, WouldAdd, IsDueAfter}
+use Rattle.syn_runs.specs.Picture as picture
+use Rattle.syn_runs.proofs.OutcomeLemmas.{Outcome, refuses, begins_again, begins, lists}
+use Rattle.syn_runs.proofs.OutcomeLemmas.{lists_none, fetches, stages_first, stages_more}
+use Rattle.syn_runs.proofs.OutcomeLemmas.{stages_again, done_again, replaces, outcome}
+use Rattle.syn_runs.proofs.Invariant.{Plans, IsKept}
+use Rattle.syn_machine.proofs.Heard.{sent_at}
+use Rattle.syn_runs.proofs.KeptLemmas.{session_next, sessions_grow}
 use Rattle.syn_promise.specs.Steps.{Condition, Started, IsAble, IsOfSession, Makes, AreOf, Leaves}
 use Rattle.syn_promise.specs.Steps.{IsCut, stays, forgets, cut_off}
 use Rattle.syn_promise.specs.Power.{Off}
 use Rattle.std.proofs.Common.{zero, suc}
 use Rattle.std.proofs.lemmas.Option.{none-some}
-use Rattle.syn_headline.specs.World.{Open, Reopen}
-use Rattle.syn_headline.proofs.Invariant.{IsHarmless, histories_of}
+use Rattle.syn_runs.specs.World.{Open, Reopen}
+use Rattle.syn_runs.proofs.Invariant.{IsHarmless, histories_of}
 use Rattle.syn_promise.proofs.NumberLemmas.{AllStarted}
 
 -- what a machine of the picture was making

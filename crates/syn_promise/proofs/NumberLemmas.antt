@@ -9,19 +9,19 @@ use Rattle.std.proofs.lemmas.List.Elements.{All-weaker, Contains-append_left}
 use Rattle.std.proofs.lemmas.List.Elements.{Contains-append_right, Contains-append_cases}
 use Rattle.syn_model.specs.Refusal.{Refusal}
 use Rattle.syn_model.specs.Archive.{Kept, Session, Recorded, RecordedDir}
-use Rattle.syn_headline.specs.Side.{Request, Reply}
-use Rattle.syn_headline.specs.Network.{Which, Left, Right, Asks, Answers, Sent}
-use Rattle.syn_headline.specs.World.{Step, Start}
-use Rattle.syn_headline.specs.Acknowledged.{Ack, Happened, Kept_by}
-use Rattle.syn_headline.specs.Planning.{Planned, SessionPlan, Log}
-use Rattle.syn_headline.specs.Picture.{Picture, SidePicture, SessionPicture, set_side, side_of}
-use Rattle.syn_headline.specs.Picture.{Follows, CoordinatorGoes, TakesRequest, GoesOnFrom, ended}
-use Rattle.syn_headline.specs.Picture.{goes_on, HasPlan, IsExpected, StartsFrom, AllOfSession}
-use Rattle.syn_headline.specs.Picture.{IsOfSession, RunsOver}
-use Rattle.syn_headline.specs.Picture as picture
-use Rattle.syn_headline.specs.Headline.{IsStart}
-use Rattle.syn_headline.proofs.SideSteps.{if_some}
-use Rattle.syn_headline.proofs.SettledLemmas.{running_or_none}
+use Rattle.syn_machine.specs.Side.{Request, Reply}
+use Rattle.syn_machine.specs.Network.{Which, Left, Right, Asks, Answers, Sent}
+use Rattle.syn_runs.specs.World.{Step, Start}
+use Rattle.syn_runs.specs.Acknowledged.{Ack, Happened, Kept_by}
+use Rattle.syn_machine.specs.Planning.{Planned, SessionPlan, Log}
+use Rattle.syn_runs.specs.Picture.{Picture, SidePicture, SessionPicture, set_side, side_of}
+use Rattle.syn_runs.specs.Picture.{Follows, CoordinatorGoes, TakesRequest, GoesOnFrom, ended}
+use Rattle.syn_runs.specs.Picture.{goes_on, HasPlan, IsExpected, StartsFrom, AllOfSession}
+use Rattle.syn_runs.specs.Picture.{IsOfSession, RunsOver}
+use Rattle.syn_runs.specs.Picture as picture
+use Rattle.syn_runs.specs.Headline.{IsStart}
+use Rattle.syn_runs.proofs.SideSteps.{if_some}
+use Rattle.syn_runs.proofs.SettledLemmas.{running_or_none}
 use Rattle.syn_promise.specs.Steps.{Started, started_by}
 use Rattle.syn_promise.proofs.StartedLemmas.{first_kept}
 

@@ -9,20 +9,20 @@ use Rattle.syn_model.specs.Path.{Path, Name}
 use Rattle.syn_model.specs.Tree.{Content}
 use Rattle.syn_model.specs.History.{last_session}
 use Rattle.syn_model.specs.Archive.{Kept}
-use Rattle.syn_headline.specs.Side.{Begin, Begun, ListAt, Listed, NotDir}
-use Rattle.syn_headline.specs.Network.{Which, WasAnswered}
-use Rattle.syn_headline.specs.Acknowledged.{Ack, Kept_by, Stores, history_of, stores_after}
-use Rattle.syn_headline.specs.Acknowledged.{kept_in_session}
-use Rattle.syn_headline.specs.Coordinator.{Running}
-use Rattle.syn_headline.specs.Planning.{Planned, SessionPlan, Log}
-use Rattle.syn_headline.specs.Picture.{Picture, SessionPicture, CoordinatorGoes, HasPlan, MakesPlan}
-use Rattle.syn_headline.specs.Picture.{IsExpected, RunsOver, stores_of}
-use Rattle.syn_headline.specs.Headline.{StandsFor}
-use Rattle.syn_headline.specs.World.{World}
-use Rattle.syn_headline.specs.Runs.{picture_of, session_picture}
-use Rattle.syn_headline.proofs.CourseLemmas.{Course, beside, starts, ticks, takes}
-use Rattle.syn_headline.proofs.Invariant.{Plans, IsKept, IsTrueListing, IsTrueNotDir, histories_of}
-use Rattle.syn_headline.proofs.Sessions.{IsHeard}
+use Rattle.syn_machine.specs.Side.{Begin, Begun, ListAt, Listed, NotDir}
+use Rattle.syn_machine.specs.Network.{Which, WasAnswered}
+use Rattle.syn_runs.specs.Acknowledged.{Ack, Kept_by, Stores, history_of, stores_after}
+use Rattle.syn_runs.specs.Acknowledged.{kept_in_session}
+use Rattle.syn_machine.specs.Coordinator.{Running}
+use Rattle.syn_machine.specs.Planning.{Planned, SessionPlan, Log}
+use Rattle.syn_runs.specs.Picture.{Picture, SessionPicture, CoordinatorGoes, HasPlan, MakesPlan}
+use Rattle.syn_runs.specs.Picture.{IsExpected, RunsOver, stores_of}
+use Rattle.syn_runs.specs.Headline.{StandsFor}
+use Rattle.syn_runs.specs.World.{World}
+use Rattle.syn_runs.specs.Runs.{picture_of, session_picture}
+use Rattle.syn_runs.proofs.CourseLemmas.{Course, beside, starts, ticks, takes}
+use Rattle.syn_runs.proofs.Invariant.{Plans, IsKept, IsTrueListing, IsTrueNotDir, histories_of}
+use Rattle.syn_runs.proofs.Sessions.{IsHeard}
 use Rattle.syn_promise.specs.Sessions.{PlansFrom, WasNoDirectory}
 use Rattle.syn_promise.proofs.LeaveLemmas.{history_in}
 use Rattle.syn_promise.proofs.SaidLemmas.{AllSaid, IsSaid}
@@ -92,7 +92,7 @@ module _ (before : Stores) (plans : Plans) (old : Picture) (k : IsKept plans old
       let begun : IsSaid (histories_of old side) session (NotDir position) (ListAt path) =
       said side session was.number (ListAt path) (NotDir position) was.answered was.asked in
       subst (λ h. WasNoDirectory h session path position) (history_now side) (record {
-        seen = record { reached = is_true.reached; begun = begun.1 };
+        after_begin = record { reached = is_true.reached; begun = begun.1 };
         none = is_true.no_directory;
       })
 

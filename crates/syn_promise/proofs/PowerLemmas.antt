@@ -5,32 +5,32 @@ use Rattle.std.proofs.Common.{append-nil, if◌then◌else◌}
 use Rattle.syn_model.specs.Refusal.{Refusal, Full, Cause}
 use Rattle.syn_model.specs.Event.{Event, Edited}
 use Rattle.syn_model.specs.Archive.{Archive, Kept, Session}
-use Rattle.syn_headline.specs.Machine.{Status, Up, Halted, Down, Arms, IsBefore, Journaled, Layout}
-use Rattle.syn_headline.specs.Machine.{Meets, all_made, one_fails, one_stops, Writes, idle, written}
-use Rattle.syn_headline.specs.Machine.{unwritten, Compacts, compacted, not_compacted, Opens}
-use Rattle.syn_headline.specs.Machine as machine
-use Rattle.syn_headline.specs.MachineSteps.{Kind, MachineCall, Does, Calls, UnlessDown, is_down}
-use Rattle.syn_headline.specs.MachineSteps.{is_done, Arming, arming, full_generation, Checkpoints}
-use Rattle.syn_headline.specs.MachineSteps.{checkpoints}
-use Rattle.syn_headline.specs.MachineSteps as one
-use Rattle.syn_headline.specs.Side.{Request, Reply}
-use Rattle.syn_headline.specs.SideMachine.{SideMachine, side_layout, SideTakes, answers, adds}
-use Rattle.syn_headline.specs.SideMachine.{causes_of, side_kind, EditsSide, edits}
-use Rattle.syn_headline.specs.Network.{Which, Left, Right, Message}
-use Rattle.syn_headline.specs.Planning.{Planned}
-use Rattle.syn_headline.specs.Coordinator.{CoordinatorMachine, Call, Walk, Exchange, Running}
-use Rattle.syn_headline.specs.Coordinator.{archive_layout, past, refusing, making_room, start_of}
-use Rattle.syn_headline.specs.Coordinator.{Keeps, writes, cut_after, Takes, CoordinatorTakes}
-use Rattle.syn_headline.specs.Coordinator.{CoordinatorStarts, CoordinatorTicks, Advances}
-use Rattle.syn_headline.specs.Coordinator.{start_causes, coordinator_kind}
-use Rattle.syn_headline.specs.Coordinator as coordinator
-use Rattle.syn_headline.specs.World.{World, Machine, At, Coordinator, says, Step, Edits, Start}
-use Rattle.syn_headline.specs.World.{Deliver, Tick, Checkpoint, Fail, Stop, Open, Reopen, side_of}
-use Rattle.syn_headline.specs.World.{side_goes, coordinator_goes, status_of, refuses_with}
-use Rattle.syn_headline.specs.World.{side_does, coordinator_does, MachineDoes, Delivers, no_message}
-use Rattle.syn_headline.specs.World.{to_no_side, to_side, to_coordinator, Ticks, ticks, Steps}
-use Rattle.syn_headline.specs.Runs.{IsStart}
-use Rattle.syn_headline.proofs.MachineLemmas.{calls_tell}
+use Rattle.syn_machine.specs.Machine.{Status, Up, Halted, Down, Arms, IsBefore, Journaled, Layout}
+use Rattle.syn_machine.specs.Machine.{Meets, all_made, one_fails, one_stops, Writes, idle, written}
+use Rattle.syn_machine.specs.Machine.{unwritten, Compacts, compacted, not_compacted, Opens}
+use Rattle.syn_machine.specs.Machine as machine
+use Rattle.syn_machine.specs.MachineSteps.{Kind, MachineCall, Does, Calls, UnlessDown, is_down}
+use Rattle.syn_machine.specs.MachineSteps.{is_done, Arming, arming, full_generation, Checkpoints}
+use Rattle.syn_machine.specs.MachineSteps.{checkpoints}
+use Rattle.syn_machine.specs.MachineSteps as one
+use Rattle.syn_machine.specs.Side.{Request, Reply}
+use Rattle.syn_machine.specs.SideMachine.{SideMachine, side_layout, SideTakes, answers, adds}
+use Rattle.syn_machine.specs.SideMachine.{causes_of, side_kind, EditsSide, edits}
+use Rattle.syn_machine.specs.Network.{Which, Left, Right, Message}
+use Rattle.syn_machine.specs.Planning.{Planned}
+use Rattle.syn_machine.specs.Coordinator.{CoordinatorMachine, Call, Walk, Exchange, Running}
+use Rattle.syn_machine.specs.Coordinator.{archive_layout, past, refusing, making_room, start_of}
+use Rattle.syn_machine.specs.Coordinator.{Keeps, writes, cut_after, Takes, CoordinatorTakes}
+use Rattle.syn_machine.specs.Coordinator.{CoordinatorStarts, CoordinatorTicks, Advances}
+use Rattle.syn_machine.specs.Coordinator.{start_causes, coordinator_kind}
+use Rattle.syn_machine.specs.Coordinator as coordinator
+use Rattle.syn_runs.specs.World.{World, Machine, At, Coordinator, says, Step, Edits, Start}
+use Rattle.syn_runs.specs.World.{Deliver, Tick, Checkpoint, Fail, Stop, Open, Reopen, side_of}
+use Rattle.syn_runs.specs.World.{side_goes, coordinator_goes, status_of, refuses_with}
+use Rattle.syn_runs.specs.World.{side_does, coordinator_does, MachineDoes, Delivers, no_message}
+use Rattle.syn_runs.specs.World.{to_no_side, to_side, to_coordinator, Ticks, ticks, Steps}
+use Rattle.syn_runs.specs.Runs.{IsStart}
+use Rattle.syn_runs.proofs.MachineLemmas.{calls_tell}
 use Rattle.syn_promise.specs.Power.{Power, On, Stopping, Off, armed, opened, power_after, Turns}
 use Rattle.syn_promise.specs.Power.{is_machine}
 

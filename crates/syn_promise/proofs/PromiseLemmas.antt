@@ -3,49 +3,48 @@ use Rattle.std.proofs.Common.{◌≡◌, ◌≢◌, ◌⊎◌, ◌∙◌, ℕ, L
 use Rattle.std.proofs.Common.{sym}
 use Rattle.std.proofs.Common.{zero, arith, ap, subst, inl, inr, append-nil, option_map}
 use Rattle.std.proofs.lemmas.Option.{none-some, same_Some}
-use Rattle.syn_headline.specs.Machine.{Up}
+use Rattle.syn_machine.specs.Machine.{Up}
 use Rattle.std.proofs.lemmas.List.Elements.{Contains-append_right}
-use Rattle.std.specs.Prelude.{All, AllPairs, Contains, IfSome, IsSomeAnd, filter_map, take, ◌↔◌}
+use Rattle.std.specs.Prelude.{All, AllPairs, Contains, IfSome, IsSomeAnd, filter_map, take}
 use Rattle.std.specs.Prelude.{slice_index_or}
 use Rattle.syn_model.specs.Path.{Path, Name}
 use Rattle.syn_model.specs.Tree.{Tree, Content}
 use Rattle.syn_model.specs.Event.{Token, Event, Edited, Began, Replaced}
-use Rattle.syn_model.specs.History.{History, IsHistory, tree_of}
-use Rattle.syn_model.specs.Plan.{IsSynchronized, IsConflict}
-use Rattle.syn_model.specs.Archive.{Kept, CanKeep}
-use Rattle.syn_headline.specs.Side.{ListAt, Listed, NotDir}
-use Rattle.syn_headline.specs.Network.{Which, Left, Right, WasAnswered}
-use Rattle.syn_headline.specs.World.{World, Machine, At, Coordinator, Step, Runs}
-use Rattle.syn_headline.specs.Runs.{IsStart, picture_of, stores_of, OfEachRun, RunsStand}
-use Rattle.syn_headline.specs.Runs.{RunsArePictured}
-use Rattle.syn_headline.specs.Picture as picture
-use Rattle.syn_headline.specs.Acknowledged.{Ack, Happened, Kept_by, Stores, history_of}
-use Rattle.syn_headline.specs.Acknowledged.{stores_after, event_at, Grown, ArchiveGrown}
-use Rattle.syn_headline.specs.Acknowledged.{kept_in_session}
-use Rattle.syn_headline.specs.Report.{Report}
-use Rattle.syn_headline.specs.Reported.{AnswersBelong, EachReportTells}
-use Rattle.syn_headline.specs.Headline.{EachReplacementIsLegal, RecoveredIsLegal, LeavesPair}
-use Rattle.syn_headline.specs.Headline.{LogsPlans, CompleteSessionsSynchronize, IsPair, PlansWith}
-use Rattle.syn_headline.specs.Headline.{CompleteSessionsReconcile, ReportsItsConflicts, HasCounts}
-use Rattle.syn_headline.specs.Headline.{PreferenceLeavesOne, CountsItsItems, HeldIsMarked}
-use Rattle.syn_headline.specs.Headline.{IsQuietSession, IsOtherToken, trees_of, StandsFor}
-use Rattle.syn_headline.proofs.StandLemmas.{at_start}
-use Rattle.syn_headline.proofs.FineRuns.{follows, start_view}
-use Rattle.syn_headline.proofs.WholeRuns.{no_plans, start_kept, run_kept}
-use Rattle.syn_headline.proofs.Invariant.{Plans, IsKept, IsTrueListing, IsSoundEvent, histories_of}
-use Rattle.syn_headline.proofs.TokenLemmas.{token_once}
-use Rattle.syn_headline.proofs.EarlyLemmas.{entry_is}
-use Rattle.syn_promise.specs.Records.{IsDue, KeepsToPlan, RecordsKeepToPlan}
+use Rattle.syn_model.specs.History.{History, IsHistory}
+use Rattle.syn_model.specs.Plan.{IsSynchronized}
+use Rattle.syn_model.specs.Archive.{Archive, Kept}
+use Rattle.syn_machine.specs.Side.{ListAt, Listed, NotDir}
+use Rattle.syn_machine.specs.Network.{Which, Left, Right, WasAnswered}
+use Rattle.syn_runs.specs.World.{World, Machine, At, Coordinator, Step, Runs}
+use Rattle.syn_runs.specs.Runs.{IsStart, picture_of, stores_of, OfEachRun, RunsStand}
+use Rattle.syn_runs.specs.Runs.{RunsArePictured}
+use Rattle.syn_runs.specs.Picture as picture
+use Rattle.syn_runs.specs.Acknowledged.{Ack, Happened, Kept_by, Stores, history_of}
+use Rattle.syn_runs.specs.Acknowledged.{stores_after, event_at, Grown, ArchiveGrown}
+use Rattle.syn_runs.specs.Acknowledged.{kept_in_session}
+use Rattle.syn_machine.specs.Report.{Report}
+use Rattle.syn_runs.specs.Reported.{AnswersBelong, EachReportTells}
+use Rattle.syn_runs.specs.Headline.{EachReplacementIsLegal, RecoveredIsLegal, LeavesPair}
+use Rattle.syn_runs.specs.Headline.{LogsPlans, CompleteSessionsSynchronize, IsPair, PlansWith}
+use Rattle.syn_runs.specs.Headline.{CompleteSessionsReconcile}
+use Rattle.syn_runs.specs.Headline.{PreferenceLeavesOne, HeldIsMarked}
+use Rattle.syn_runs.specs.Headline.{IsQuietSession, IsOtherToken, trees_of, StandsFor}
+use Rattle.syn_runs.proofs.StandLemmas.{at_start}
+use Rattle.syn_runs.proofs.FineRuns.{follows, start_view}
+use Rattle.syn_runs.proofs.WholeRuns.{no_plans, start_kept, run_kept}
+use Rattle.syn_runs.proofs.Invariant.{Plans, IsKept, IsTrueListing, IsSoundEvent, histories_of}
+use Rattle.syn_runs.proofs.TokenLemmas.{token_once}
+use Rattle.syn_runs.proofs.EarlyLemmas.{entry_is}
+use Rattle.syn_promise.specs.Records.{KeepsToPlan, RecordsKeepToPlan}
 use Rattle.syn_promise.specs.Sessions.{IsPlanned, IsLegal, Synchronizes, Tells, WasNoDirectory}
 use Rattle.syn_promise.specs.Promise.{Promised, Reports, AreSame}
-use Rattle.syn_promise.specs.Laws.{told_by, MayStand, RunsKeepPromise}
+use Rattle.syn_promise.specs.Laws.{AllowsEachChange, told_by, MayStand, RunsKeepPromise}
 use Rattle.syn_promise.proofs.ReportLemmas.{report_tells, entry_plan}
 use Rattle.syn_promise.proofs.ReportedLemmas.{IsTold}
-use Rattle.syn_headline.specs.Coordinator.{Running, report_of}
-use Rattle.syn_headline.specs.Picture.{Counts}
+use Rattle.syn_machine.specs.Coordinator.{Running, report_of}
+use Rattle.syn_runs.specs.Picture.{Counts}
 use Rattle.syn_model.specs.Refusal.{Refusal}
-use Rattle.syn_headline.proofs.SideSteps.{if_some}
-use Rattle.syn_promise.proofs.AllowedLemmas.{allowed_by, allowed_back}
+use Rattle.syn_promise.proofs.AllowedLemmas.{allowed_by}
 use Rattle.syn_promise.proofs.RecordLemmas.{archive_after}
 use Rattle.syn_promise.proofs.StartedLemmas.{reports_started}
 use Rattle.syn_promise.proofs.SessionLemmas.{history_more, legal_then, HasMarks}
@@ -56,9 +55,9 @@ use Rattle.syn_promise.proofs.ComeLemmas.{CameSo, come_all}
 use Rattle.syn_promise.proofs.ApartLemmas.{AllApart, AreApart, runs_apart, made_distinct}
 use Rattle.syn_promise.proofs.RefusedLemmas.{refusable}
 use Rattle.syn_promise.specs.Sessions.{IsRefusable}
-use Rattle.syn_headline.specs.Reported.{IsReportOf, IsRefusedFor, WasExchanged}
-use Rattle.syn_headline.specs.Planning.{SessionPlan}
-use Rattle.syn_headline.proofs.Invariant.{plan_in}
+use Rattle.syn_runs.specs.Reported.{IsReportOf, IsRefusedFor, WasExchanged}
+use Rattle.syn_machine.specs.Planning.{SessionPlan}
+use Rattle.syn_runs.proofs.Invariant.{plan_in}
 use Rattle.syn_model.specs.Plan.{plan as items_of}
 use Rattle.std.proofs.Common.{map}
 
@@ -73,8 +72,6 @@ pub record Laws : Type 0 where
   pub synchronized : OfEachRun CompleteSessionsSynchronize
   pub reconciled : OfEachRun CompleteSessionsReconcile
   pub preferred : OfEachRun PreferenceLeavesOne
-  pub conflicts : OfEachRun ReportsItsConflicts
-  pub counts : OfEachRun CountsItsItems
   pub held : OfEachRun HeldIsMarked
   pub tell : OfEachRun EachReportTells
   pub belong : OfEachRun AnswersBelong
@@ -247,20 +244,9 @@ module _ (laws : Laws) (old new : World) (steps : List Step) (now : Stores) (s :
   lawful Left = subst IsHistory stands.left (kept.1.sound.lawful Left)
   lawful Right = subst IsHistory stands.right (kept.1.sound.lawful Right)
 
-  due : (earlier later : List Ack) (ack : Ack) → acks ≡ earlier ++ ack ∷ later →
-      IsDue new.log (stores_after before earlier) ack
-  due earlier later ack e = record {
-    allowed = allowed_by before acks lawful came.could earlier later ack e;
-    to_plan = to_plan earlier later ack e;
-  }
-
   abbrev IsSound : Which → Event → Type 0
   IsSound side event = ((picture.side_of (picture_of new) side).status ≢ Up)
       × IsSoundEvent kept.0 (histories_of (picture_of new)) new.coordinator.journal.value side event
-
-  lawful_now : (side : Which) → IsHistory (history_of now side)
-  lawful_now Left = pair.left
-  lawful_now Right = pair.right
 
   event_back : (side : Which) (event : Event) → IsSound side event →
       history_of now side ≡ history_of after side ++ event ∷ [] →
@@ -274,38 +260,30 @@ module _ (laws : Laws) (old new : World) (steps : List Step) (now : Stores) (s :
 
   side_back : (side : Which) (ack : Ack) (writing : Option Event) →
       IfSome writing (IsSound side) → option_map (λ event. Happened side event) writing ≡ Some ack →
-      AreSame (At side) now (stores_after before (acks ++ ack ∷ [])) → IsDue new.log after ack
+      AreSame (At side) now (stores_after before (acks ++ ack ∷ [])) → KeepsToPlan new.log after ack
   side_back side ack None sound is same = absurd (none-some _ is)
   side_back side ack (Some event) sound is same =
       let ack_is = same_Some (Happened side event) ack is in
       let grown = subst (λ ack. history_of now side
       ≡ history_of (stores_after before (acks ++ ack ∷ [])) side)
       (sym ack_is) same ∙ history_with before acks side event in
-      subst (IsDue new.log after) ack_is (record {
-        allowed = allowed_back (history_of after side) (history_of now side) event
-            (lawful_now side) grown;
-        to_plan = event_back side event sound grown;
-      })
+      subst (KeepsToPlan new.log after) ack_is (event_back side event sound grown)
 
   archive_back : (ack : Ack) (writing : Option Kept) →
       option_map (λ kept. Kept_by kept) writing ≡ Some ack →
       IfSome writing (λ kept. KeepsToPlan new.log after (Kept_by kept)) →
-      IfSome writing (λ kept. CanKeep after.archive kept) → IsDue new.log after ack
-  archive_back ack None is keeps can = absurd (none-some _ is)
-  archive_back ack (Some kept) is keeps can =
-      subst (IsDue new.log after) (same_Some (Kept_by kept) ack is)
-      (record { allowed = can; to_plan = keeps })
+      KeepsToPlan new.log after ack
+  archive_back ack None is keeps = absurd (none-some _ is)
+  archive_back ack (Some kept) is keeps =
+      subst (KeepsToPlan new.log after) (same_Some (Kept_by kept) ack is) keeps
 
   given_back : (machine : Machine) (ack : Ack) → (came.conditions machine).making ≡ Some ack →
-      AreSame machine now (stores_after before (acks ++ ack ∷ [])) → IsDue new.log after ack
+      AreSame machine now (stores_after before (acks ++ ack ∷ [])) → KeepsToPlan new.log after ack
   given_back (At side) ack is same = side_back side ack
       (picture.side_of (picture_of new) side).writing (kept.1.sides side).writing
       (sym (making (At side)) ∙ is) same
   given_back Coordinator ack is same = archive_back ack new.coordinator.journal.writing
       (sym (making Coordinator) ∙ is) recorded.1
-      (if_some new.coordinator.journal.writing _ (λ kept. CanKeep after.archive kept)
-      kept.1.coordinator.writing
-      (λ one _ sound. subst (λ archive. CanKeep archive one) stands.archive sound.2))
 
   not_twice : (side : Which) (earlier later : History) (token : Token) (path : Path)
       (since : ℕ) (part : Tree) →
@@ -328,13 +306,11 @@ module _ (laws : Laws) (old new : World) (steps : List Step) (now : Stores) (s :
   synchronized : (report : Report) (found left : Stores) →
       IsQuietSession before acks new.reports report found left →
       (preference : Option Which) × PlansWith new.log report.session preference
-      × Synchronizes preference report found left
+      × Synchronizes preference found left
   synchronized report found left quiet =
       let archive = laws.reconciled old new steps s runs report found left quiet in
       let with = archive.1 in
-      let same = preferred_so report archive.0 in
-      let conflicts = laws.conflicts old new steps s runs report found left quiet in
-      let counts = laws.counts old new steps s runs report found left quiet in (
+      let same = preferred_so report archive.0 in (
         archive.0,
         with,
         record {
@@ -347,10 +323,6 @@ module _ (laws : Laws) (old new : World) (steps : List Step) (now : Stores) (s :
               laws.preferred old new steps s runs report found left is.0 quiet
               (subst (PlansWith new.log report.session) is.1 with) apart;
           archive = archive.2;
-          conflicts = subst (λ p. (path : Path) → Contains report.conflicts path
-              ↔ IsConflict p (tree_of found.left) (tree_of found.right) found.archive.marks path)
-              (same conflicts.0 with conflicts.1) conflicts.2;
-          counts = subst (λ p. HasCounts p found report) (same counts.0 with counts.1) counts.2;
           carried = λ side path part was. laws.held old new steps s runs side was.earlier was.later
               was.token path was.since was.position part report found left was.replaced
               was.untouched was.directory was.held was.still quiet;
@@ -422,7 +394,7 @@ module _ (laws : Laws) (old new : World) (steps : List Step) (now : Stores) (s :
     sessions = new.log;
     steps_are_made = came.come;
     stand = stand;
-    due = due;
+    due = to_plan;
     unacknowledged_due = given_back;
     held = pair.held;
     one_plan = once;
@@ -435,3 +407,28 @@ module _ (laws : Laws) (old new : World) (steps : List Step) (now : Stores) (s :
 
 pub promise_is_kept : Laws → RunsKeepPromise
 promise_is_kept laws old new steps now s runs may = kept_promise laws old new steps now s runs may
+
+-- what the disks stand for, if nothing that was being written does
+nothing_more : (writing : Option Event) (history : History) → Grown writing history history
+nothing_more None history = refl
+nothing_more (Some event) history = inl refl
+
+no_record_more : (writing : Option Kept) (archive : Archive) → ArchiveGrown writing archive archive
+no_record_more None archive = refl
+no_record_more (Some kept) archive = inl refl
+
+-- the rules allow each change that it acknowledges
+pub changes_are_allowed : Laws → OfEachRun AllowsEachChange
+changes_are_allowed laws old new steps s runs =
+    allowed_by (stores_of old) new.acknowledged (lawful laws old new steps now s runs may)
+    (came laws old new steps now s runs may).could
+  where
+    now : Stores
+    now = stores_after (stores_of old) new.acknowledged
+
+    may : MayStand (stores_of old) (picture_of new) now
+    may = record {
+      side = λ side. nothing_more (picture.side_of (picture_of new) side).writing
+          (history_of now side);
+      archive = no_record_more new.coordinator.journal.writing now.archive;
+    }

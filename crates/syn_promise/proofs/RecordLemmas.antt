@@ -17,26 +17,26 @@ use Rattle.syn_model.specs.Tree.{is_directory, replace, empty_directory}
 use Rattle.syn_model.specs.Decision.{Item, ToLeft, ToRight, MarkSame, MarkDir, Conflict}
 use Rattle.syn_model.specs.Archive.{Archive, Kept, Session, Recorded, RecordedDir, CanKeep}
 use Rattle.syn_model.specs.Archive.{after_kept, archive_of}
-use Rattle.syn_headline.specs.Side.{Request, Reply, Done, Replace, token_of}
-use Rattle.syn_headline.specs.Network.{Which, Left, Right, other, Answers, Sent}
-use Rattle.syn_headline.specs.Session.{record_for}
-use Rattle.syn_headline.specs.Planning.{Planned, SessionPlan, Log, WritesTo, seen_on}
-use Rattle.syn_headline.specs.Acknowledged.{Ack, Happened, Kept_by, Stores, kept_in, history_of}
-use Rattle.syn_headline.specs.Acknowledged.{event_at, stores_after}
-use Rattle.syn_headline.specs.World.{Step}
-use Rattle.syn_headline.specs.Picture.{Picture, SidePicture, SessionPicture, CoordinatorPicture}
-use Rattle.syn_headline.specs.Picture.{set_side, side_of, CoordinatorGoes, Follows, stores_of}
-use Rattle.syn_headline.specs.Picture.{FollowsAll, HasPlan, IsDueAfter, IsExpected, IsNext}
-use Rattle.syn_headline.specs.Picture.{IsNothing, TakesRequest, nothing_more, one_more, RunsOver}
-use Rattle.syn_headline.specs.Picture as picture
-use Rattle.syn_headline.specs.Headline.{IsStart, StandsFor}
-use Rattle.syn_headline.proofs.Invariant.{Plans, IsKept, plan_in, histories_of}
-use Rattle.syn_headline.proofs.Heard.{sent_at, split_at}
-use Rattle.syn_headline.proofs.SideSteps.{if_some}
-use Rattle.syn_headline.proofs.AdvanceLemmas.{step_advances}
-use Rattle.syn_headline.proofs.CoordinatorRuns.{waits_for}
-use Rattle.syn_headline.proofs.WorldLemmas.{kept_kept, run_stands, step_stands}
-use Rattle.syn_headline.proofs.WholeRuns.{no_plans, start_kept, start_stands}
+use Rattle.syn_machine.specs.Side.{Request, Reply, Done, Replace, token_of}
+use Rattle.syn_machine.specs.Network.{Which, Left, Right, other, Answers, Sent}
+use Rattle.syn_machine.specs.Session.{record_for}
+use Rattle.syn_machine.specs.Planning.{Planned, SessionPlan, Log, WritesTo, seen_on}
+use Rattle.syn_runs.specs.Acknowledged.{Ack, Happened, Kept_by, Stores, kept_in, history_of}
+use Rattle.syn_runs.specs.Acknowledged.{event_at, stores_after}
+use Rattle.syn_runs.specs.World.{Step}
+use Rattle.syn_runs.specs.Picture.{Picture, SidePicture, SessionPicture, CoordinatorPicture}
+use Rattle.syn_runs.specs.Picture.{set_side, side_of, CoordinatorGoes, Follows, stores_of}
+use Rattle.syn_runs.specs.Picture.{FollowsAll, HasPlan, IsDueAfter, IsExpected, IsNext}
+use Rattle.syn_runs.specs.Picture.{IsNothing, TakesRequest, nothing_more, one_more, RunsOver}
+use Rattle.syn_runs.specs.Picture as picture
+use Rattle.syn_runs.specs.Headline.{IsStart, StandsFor}
+use Rattle.syn_runs.proofs.Invariant.{Plans, IsKept, plan_in, histories_of}
+use Rattle.syn_machine.proofs.Heard.{sent_at, split_at}
+use Rattle.syn_runs.proofs.SideSteps.{if_some}
+use Rattle.syn_runs.proofs.AdvanceLemmas.{step_advances}
+use Rattle.syn_runs.proofs.CoordinatorRuns.{waits_for}
+use Rattle.syn_runs.proofs.WorldLemmas.{kept_kept, run_stands, step_stands}
+use Rattle.syn_runs.proofs.WholeRuns.{no_plans, start_kept, start_stands}
 use Rattle.syn_promise.specs.Records.{HasPut, IsOfItem, KeepsToPlan, RecordsKeepToPlan}
 use Rattle.syn_promise.proofs.SaidLemmas.{AllSaid, grows_by, put_more, step_said, start_said}
 use Rattle.syn_promise.proofs.LeaveLemmas.{history_in}

@@ -8,16 +8,16 @@ use Rattle.syn_model.specs.Path.{Path}
 use Rattle.syn_model.specs.Refusal.{Refusal}
 use Rattle.syn_model.specs.Archive.{Kept}
 use Rattle.syn_model.specs.Decision.{Item, ToLeft, ToRight, MarkSame, MarkDir, Conflict, path_of}
-use Rattle.syn_headline.specs.Side.{Request, Begin, ListAt, Fetch, Stage, Replace}
-use Rattle.syn_headline.specs.Network.{Which, other, Asks}
-use Rattle.syn_headline.specs.Planning.{Planned, SessionPlan, WritesTo}
-use Rattle.syn_headline.specs.Report.{conflict_at}
-use Rattle.syn_headline.specs.Session.{record_for}
-use Rattle.syn_headline.specs.Coordinator.{Exchange, IsFor, IsDue, done, same, directory}
-use Rattle.syn_headline.specs.Reported.{IsRefusedFor, by_side, by_archive, by_journal}
-use Rattle.syn_headline.specs.Reported.{WasExchanged}
-use Rattle.syn_headline.specs.Picture.{Picture, IsOfPlan}
-use Rattle.syn_headline.proofs.Invariant.{Plans, IsKept, plan_in}
+use Rattle.syn_machine.specs.Side.{Request, Begin, ListAt, Fetch, Stage, Replace}
+use Rattle.syn_machine.specs.Network.{Which, other, Asks}
+use Rattle.syn_machine.specs.Planning.{Planned, SessionPlan, WritesTo}
+use Rattle.syn_machine.specs.Report.{conflict_at}
+use Rattle.syn_machine.specs.Session.{record_for}
+use Rattle.syn_machine.specs.Coordinator.{Exchange, IsFor, IsDue, done, same, directory}
+use Rattle.syn_runs.specs.Reported.{IsRefusedFor, by_side, by_archive, by_journal}
+use Rattle.syn_runs.specs.Reported.{WasExchanged}
+use Rattle.syn_runs.specs.Picture.{Picture, IsOfPlan}
+use Rattle.syn_runs.proofs.Invariant.{Plans, IsKept, plan_in}
 use Rattle.syn_promise.specs.Sessions.{IsRefusable}
 use Rattle.syn_promise.proofs.ApartLemmas.{AreDistinct, writes_at}
 

@@ -13,21 +13,21 @@ use Rattle.std.proofs.Common.{drop, append-nil}
 use Rattle.std.proofs.lemmas.List.{take-append-drop}
 use Rattle.std.proofs.lemmas.Option.{none-some}
 use Rattle.std.specs.Prelude.{AllPairs}
-use Rattle.syn_headline.proofs.EarlyLemmas.{entry_is}
-use Rattle.syn_headline.specs.Picture.{Counts}
-use Rattle.syn_headline.proofs.Invariant.{plan_in}
+use Rattle.syn_runs.proofs.EarlyLemmas.{entry_is}
+use Rattle.syn_runs.specs.Picture.{Counts}
+use Rattle.syn_runs.proofs.Invariant.{plan_in}
 use Rattle.syn_model.specs.Refusal.{Refusal}
 use Rattle.syn_model.specs.Path.{Path}
 use Rattle.syn_model.specs.Archive.{Kept}
-use Rattle.syn_headline.specs.Network.{Sent}
-use Rattle.syn_headline.specs.Planning.{Planned, Log, SessionPlan}
-use Rattle.syn_headline.specs.Report.{Report, Complete, Incomplete, is_kept, is_carrying}
-use Rattle.syn_headline.specs.Report.{is_marking, conflict_at}
-use Rattle.syn_headline.specs.Coordinator.{Running, report_of, plan_of, is_whole, took_not_dir}
-use Rattle.syn_headline.specs.Reported.{IsReportOf, IsPlanned, EndsSo, IsSettledBy, through}
-use Rattle.syn_headline.specs.Reported.{with_answer, at_record, unanswered, out_of_memory}
-use Rattle.syn_headline.specs.Reported.{HasUnstable, IsRefusedFor}
-use Rattle.syn_headline.proofs.HeardLemmas.{whole_parts}
+use Rattle.syn_machine.specs.Network.{Sent}
+use Rattle.syn_machine.specs.Planning.{Planned, Log, SessionPlan}
+use Rattle.syn_machine.specs.Report.{Report, Complete, Incomplete, is_kept, is_carrying}
+use Rattle.syn_machine.specs.Report.{is_marking, conflict_at}
+use Rattle.syn_machine.specs.Coordinator.{Running, report_of, plan_of, is_whole, took_not_dir}
+use Rattle.syn_runs.specs.Reported.{IsReportOf, IsPlanned, EndsSo, IsSettledBy, through}
+use Rattle.syn_runs.specs.Reported.{with_answer, at_record, unanswered, out_of_memory}
+use Rattle.syn_runs.specs.Reported.{HasUnstable, IsRefusedFor}
+use Rattle.syn_runs.proofs.HeardLemmas.{whole_parts}
 use Rattle.syn_promise.specs.Sessions.{Tells, TellsOf, IsRefusable, IsStable, with_plan}
 use Rattle.syn_promise.specs.Sessions.{without_plan}
 use Rattle.syn_promise.proofs.ApartLemmas.{AreApart, none_refused}
@@ -149,7 +149,7 @@ module _ (sent : Sent) (log : Log) (kept : List Kept) (running : Running)
     parts = sym (take-append-drop running.cursor (plan_of running));
     to_the_end = λ none. absurd (early none);
     settled = is.settled;
-    apart = apart_in (plan_of running);
+    not_both = apart_in (plan_of running);
     refused = refused_so running.plan refl is.planned;
     conflicts = refl;
     done = refl;
@@ -164,7 +164,7 @@ module _ (sent : Sent) (log : Log) (kept : List Kept) (running : Running)
     parts = sym (append-nil (plan_of running));
     to_the_end = λ _. refl;
     settled = (ends_through ended is.ends none).1;
-    apart = apart_in (plan_of running);
+    not_both = apart_in (plan_of running);
     refused = refused_so running.plan refl is.planned;
     conflicts = conflicts none ∙ ap (filter_map (λ planned. conflict_at planned.item)) plan_is;
     done = refl;
@@ -248,7 +248,7 @@ module _ (sent : Sent) (log : Log) (kept : List Kept) (running : Running)
         parts = refl;
         to_the_end = λ none. absurd (early at none);
         settled = All-nil (IsSettledBy kept report.refused);
-        apart = subst (λ kept. All (λ planned. is_kept kept planned.item ≡ true →
+        not_both = subst (λ kept. All (λ planned. is_kept kept planned.item ≡ true →
             All (λ refused. refused.1 ≢ path_of planned.item) report.refused) made.plan)
             (sym is.kept_is) (apart_in made.plan);
         refused = subst (All (λ one. IsRefusable made.plan one.1)) (sym (is.unplanned at))

@@ -16,27 +16,27 @@ use Rattle.std.specs.Prelude.{Contains}
 use Rattle.std.proofs.Common.{zero, suc}
 use Rattle.std.proofs.lemmas.List.Elements.{Contains-append_cases, All-weaker}
 use Rattle.syn_model.specs.Refusal.{Memory, NoAnswer}
-use Rattle.syn_headline.specs.Side.{Reply}
-use Rattle.syn_headline.specs.Acknowledged.{stores_after}
-use Rattle.syn_headline.specs.Report.{conflict_at}
-use Rattle.syn_headline.specs.Picture.{IsDueAfter, IsNothing}
+use Rattle.syn_machine.specs.Side.{Reply}
+use Rattle.syn_runs.specs.Acknowledged.{stores_after}
+use Rattle.syn_machine.specs.Report.{conflict_at}
+use Rattle.syn_runs.specs.Picture.{IsDueAfter, IsNothing}
 use Rattle.syn_promise.proofs.PlannedLemmas.{WasPlanned, AllPlanned}
 use Rattle.syn_promise.proofs.RecordLemmas.{last_after}
 use Rattle.syn_model.specs.Archive.{Kept, after_kept, archive_of}
-use Rattle.syn_headline.specs.Network.{Which}
-use Rattle.syn_headline.specs.Acknowledged.{Ack, Kept_by, Stores, kept_in, kept_in_session}
-use Rattle.syn_headline.specs.Planning.{Planned, SessionPlan, Log}
-use Rattle.syn_headline.specs.Report.{Report}
-use Rattle.syn_headline.specs.Picture.{Picture, SessionPicture, CoordinatorGoes, Reports, Counts}
-use Rattle.syn_headline.specs.Picture.{StartsFrom, GoesOnFrom, ended, goes_on, HasPlan, IsExpected}
-use Rattle.syn_headline.specs.Picture.{RunsOver}
-use Rattle.syn_headline.specs.Picture as picture
-use Rattle.syn_headline.specs.Headline.{IsStart, StandsFor}
-use Rattle.syn_headline.proofs.CourseLemmas.{Course, beside, starts, ticks, takes}
-use Rattle.syn_headline.proofs.Invariant.{Plans, IsKept, plan_in}
-use Rattle.syn_headline.proofs.KeptLemmas.{sessions_grow}
-use Rattle.syn_headline.proofs.LogLemmas.{plan_in-push}
-use Rattle.syn_headline.proofs.SideSteps.{if_some}
+use Rattle.syn_machine.specs.Network.{Which}
+use Rattle.syn_runs.specs.Acknowledged.{Ack, Kept_by, Stores, kept_in, kept_in_session}
+use Rattle.syn_machine.specs.Planning.{Planned, SessionPlan, Log}
+use Rattle.syn_machine.specs.Report.{Report}
+use Rattle.syn_runs.specs.Picture.{Picture, SessionPicture, CoordinatorGoes, Reports, Counts}
+use Rattle.syn_runs.specs.Picture.{StartsFrom, GoesOnFrom, ended, goes_on, HasPlan, IsExpected}
+use Rattle.syn_runs.specs.Picture.{RunsOver}
+use Rattle.syn_runs.specs.Picture as picture
+use Rattle.syn_runs.specs.Headline.{IsStart, StandsFor}
+use Rattle.syn_runs.proofs.CourseLemmas.{Course, beside, starts, ticks, takes}
+use Rattle.syn_runs.proofs.Invariant.{Plans, IsKept, plan_in}
+use Rattle.syn_runs.proofs.KeptLemmas.{sessions_grow}
+use Rattle.syn_runs.proofs.LogLemmas.{plan_in-push}
+use Rattle.syn_runs.proofs.SideSteps.{if_some}
 
 abbrev pub Told : Type 0
 Told = Report × ℕ

@@ -14,29 +14,29 @@ use Rattle.syn_model.specs.Event.{Token, Event, Edited, Began, Replaced, is_same
 use Rattle.syn_model.specs.History.{History, IsAllowed, last_session, last_token}
 use Rattle.syn_model.specs.Standing.{token_after}
 use Rattle.syn_model.specs.Archive.{Kept}
-use Rattle.syn_headline.specs.Side.{Side, Served, Request, Begin, ListAt, Fetch, Stage, Replace}
-use Rattle.syn_headline.specs.Side.{Reply, Begun, Listed, NotDir, Piece, Staged, Done, Refused}
-use Rattle.syn_headline.specs.Side.{token_of}
-use Rattle.syn_headline.specs.Network.{Which, Left, Right, other, Message, Asks, Answers, Sent}
-use Rattle.syn_headline.specs.World.{Step}
-use Rattle.syn_headline.specs.Planning.{Log}
-use Rattle.syn_headline.specs.Acknowledged.{Ack}
-use Rattle.syn_headline.specs.Picture.{Picture, SidePicture, SessionPicture, Follows, TakesRequest}
-use Rattle.syn_headline.specs.Picture.{CoordinatorGoes, side_of, set_side, AllOfSession}
-use Rattle.syn_headline.specs.Picture.{IsOfSession}
-use Rattle.syn_headline.specs.Picture as picture
-use Rattle.syn_headline.specs.Headline.{IsStart}
-use Rattle.syn_headline.proofs.OutcomeLemmas.{Outcome, refuses, begins_again, begins, lists}
-use Rattle.syn_headline.proofs.OutcomeLemmas.{lists_none, fetches, stages_first, stages_more}
-use Rattle.syn_headline.proofs.OutcomeLemmas.{stages_again, done_again, replaces, any_outcome}
-use Rattle.syn_headline.proofs.Invariant.{Plans, IsKept, IsSoundEvent, histories_of, plan_in}
-use Rattle.syn_headline.specs.Picture.{IsOfPlan}
+use Rattle.syn_machine.specs.Side.{Side, Served, Request, Begin, ListAt, Fetch, Stage, Replace}
+use Rattle.syn_machine.specs.Side.{Reply, Begun, Listed, NotDir, Piece, Staged, Done, Refused}
+use Rattle.syn_machine.specs.Side.{token_of}
+use Rattle.syn_machine.specs.Network.{Which, Left, Right, other, Message, Asks, Answers, Sent}
+use Rattle.syn_runs.specs.World.{Step}
+use Rattle.syn_machine.specs.Planning.{Log}
+use Rattle.syn_runs.specs.Acknowledged.{Ack}
+use Rattle.syn_runs.specs.Picture.{Picture, SidePicture, SessionPicture, Follows, TakesRequest}
+use Rattle.syn_runs.specs.Picture.{CoordinatorGoes, side_of, set_side, AllOfSession}
+use Rattle.syn_runs.specs.Picture.{IsOfSession}
+use Rattle.syn_runs.specs.Picture as picture
+use Rattle.syn_runs.specs.Headline.{IsStart}
+use Rattle.syn_runs.proofs.OutcomeLemmas.{Outcome, refuses, begins_again, begins, lists}
+use Rattle.syn_runs.proofs.OutcomeLemmas.{lists_none, fetches, stages_first, stages_more}
+use Rattle.syn_runs.proofs.OutcomeLemmas.{stages_again, done_again, replaces, any_outcome}
+use Rattle.syn_runs.proofs.Invariant.{Plans, IsKept, IsSoundEvent, histories_of, plan_in}
+use Rattle.syn_runs.specs.Picture.{IsOfPlan}
 use Rattle.std.proofs.lemmas.List.{length-append, take-append-le}
 use Rattle.std.proofs.Math.Seq.{take-length}
 use Rattle.std.proofs.Common.{◌≤◌, length, take}
-use Rattle.syn_headline.proofs.Heard.{sent_at}
-use Rattle.syn_headline.proofs.StagedLemmas.{Moves, same_token}
-use Rattle.syn_headline.proofs.AdvanceLemmas.{step_advances}
+use Rattle.syn_machine.proofs.Heard.{sent_at}
+use Rattle.syn_runs.proofs.StagedLemmas.{Moves, same_token}
+use Rattle.syn_runs.proofs.AdvanceLemmas.{step_advances}
 use Rattle.syn_promise.specs.Records.{HasPut}
 
 -- so also after more events

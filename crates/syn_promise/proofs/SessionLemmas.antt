@@ -4,7 +4,7 @@ use Rattle.std.proofs.Common.{sym, ap, subst, refl, filter_map, append_assoc}
 use Rattle.std.specs.Prelude.{AllPairs, Contains, ◌≢◌, slice_get, Some}
 use Rattle.std.proofs.lemmas.Option.{same_Some}
 use Rattle.syn_model.specs.Mark.{mark}
-use Rattle.syn_headline.proofs.EarlyLemmas.{entry_is}
+use Rattle.syn_runs.proofs.EarlyLemmas.{entry_is}
 use Rattle.std.proofs.lemmas.List.{take-append-le}
 use Rattle.std.proofs.lemmas.List.Elements.{filter_map-append}
 use Rattle.syn_model.specs.Path.{Path, Name, parent}
@@ -12,16 +12,16 @@ use Rattle.syn_model.specs.Tree.{Tree, Content}
 use Rattle.syn_model.specs.Event.{Token}
 use Rattle.syn_model.specs.History.{History, last_session}
 use Rattle.syn_model.specs.Dirty.{Scan, IsScanBy}
-use Rattle.syn_headline.specs.Side.{ListAt, Listed, NotDir}
-use Rattle.syn_headline.specs.Network.{Which, Left, Right, other, Sent, WasAnswered}
-use Rattle.syn_headline.specs.Picture.{Picture, stores_of}
-use Rattle.syn_headline.specs.Headline.{StandsFor}
-use Rattle.syn_headline.specs.Acknowledged.{Ack, Happened, Stores, history_of, stores_after}
-use Rattle.syn_headline.specs.Acknowledged.{event_at, WasListed}
-use Rattle.syn_headline.specs.Acknowledged as messages
-use Rattle.syn_headline.specs.Planning.{Planned, SessionPlan, Log, seen_on}
-use Rattle.syn_headline.proofs.Invariant.{IsTrueListing}
-use Rattle.syn_promise.specs.Sessions.{IsSeenAt, WasDirectory, WasNoDirectory, IsLegal}
+use Rattle.syn_machine.specs.Side.{ListAt, Listed, NotDir}
+use Rattle.syn_machine.specs.Network.{Which, Left, Right, other, Sent, WasAnswered}
+use Rattle.syn_runs.specs.Picture.{Picture, stores_of}
+use Rattle.syn_runs.specs.Headline.{StandsFor}
+use Rattle.syn_runs.specs.Acknowledged.{Ack, Happened, Stores, history_of, stores_after}
+use Rattle.syn_runs.specs.Acknowledged.{event_at, WasListed}
+use Rattle.syn_runs.specs.Acknowledged as messages
+use Rattle.syn_machine.specs.Planning.{Planned, SessionPlan, Log, seen_on}
+use Rattle.syn_runs.proofs.Invariant.{IsTrueListing}
+use Rattle.syn_promise.specs.Sessions.{IsAfterBegin, WasDirectory, WasNoDirectory, IsLegal}
 
 -- what a side has after more was acknowledged begins with what it had
 pub history_more : (before : Stores) (acks more : List Ack) (which : Which) →
@@ -73,7 +73,7 @@ module _ (before : Stores) (acknowledged : List Ack) (sent : Sent)
   -- a listing that a history had come to is true of it
   seen_then : (earlier : History) (later : History) (side : Which) → now side ≡ earlier ++ later →
       (session : ℕ) (path : Path) (position : ℕ) → WasListed sent side session path position →
-      position ≤ length earlier → IsSeenAt earlier session position
+      position ≤ length earlier → IsAfterBegin earlier session position
   seen_then earlier later side is session path position listed reached =
       let true_now = answered side session path position listed.0 listed.1 in
       record {
@@ -102,13 +102,13 @@ module _ (before : Stores) (acknowledged : List Ack) (sent : Sent)
         of_session = is.logged;
         planned = is.planned;
         item = is.item;
-        looked = seen_then (history_of written side) here.0 side here.1 token.session (parent path)
-            since is.listed is.reached;
+        after_begin = seen_then (history_of written side) here.0 side here.1 token.session
+            (parent path) since is.listed is.reached;
         at = is.seen;
         untouched = is.untouched;
         overwrites = is.recorded;
         source = record {
-          seen = seen_then (history_of written (other side)) there.0 (other side) there.1
+          after_begin = seen_then (history_of written (other side)) there.0 (other side) there.1
               token.session (parent path) (seen_on is.planned (other side)).since
               is.source.listed is.source.reached;
           directory = is.source.directory;
@@ -129,7 +129,7 @@ module _ (before : Stores) (acknowledged : List Ack) (sent : Sent)
     listed = λ path directory stable.
         let true_now = answered side session path _ _ (is.listed path directory stable) in
         record {
-          seen = record { reached = true_now.reached; begun = true_now.begun };
+          after_begin = record { reached = true_now.reached; begun = true_now.begun };
           directory = true_now.directory;
           entries_are = true_now.entries_there;
         };

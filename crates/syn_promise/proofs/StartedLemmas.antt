@@ -8,20 +8,20 @@ use Rattle.std.proofs.lemmas.List.Elements.{Contains-append_left, Contains-appen
 use Rattle.std.proofs.Math.Seq.{take-length}
 use Rattle.syn_model.specs.Refusal.{Refusal}
 use Rattle.syn_model.specs.Archive.{Archive, Kept, Session, archive_of}
-use Rattle.syn_headline.specs.Network.{Which, Sent}
-use Rattle.syn_headline.specs.World.{Step}
-use Rattle.syn_headline.specs.Acknowledged.{Ack, Kept_by, kept_in}
-use Rattle.syn_headline.specs.Planning.{Planned}
-use Rattle.syn_headline.specs.Report.{Report}
-use Rattle.syn_headline.specs.Picture.{Picture, SessionPicture, FollowsAll, nothing_more, one_more}
-use Rattle.syn_headline.specs.Picture.{CoordinatorGoes, Reports, IsNext, StartsFrom, GoesOnFrom}
-use Rattle.syn_headline.specs.Picture.{ended, goes_on, RunsOver}
-use Rattle.syn_headline.specs.Picture as picture
-use Rattle.syn_headline.specs.Headline.{IsStart}
-use Rattle.syn_headline.proofs.Invariant.{Plans, IsKept}
-use Rattle.syn_headline.proofs.CourseLemmas.{Course, beside, starts, ticks, takes, course}
-use Rattle.syn_headline.proofs.AdvanceLemmas.{step_advances}
-use Rattle.syn_headline.proofs.WholeRuns.{no_plans, start_kept}
+use Rattle.syn_machine.specs.Network.{Which, Sent}
+use Rattle.syn_runs.specs.World.{Step}
+use Rattle.syn_runs.specs.Acknowledged.{Ack, Kept_by, kept_in}
+use Rattle.syn_machine.specs.Planning.{Planned}
+use Rattle.syn_machine.specs.Report.{Report}
+use Rattle.syn_runs.specs.Picture.{Picture, SessionPicture, FollowsAll, nothing_more, one_more}
+use Rattle.syn_runs.specs.Picture.{CoordinatorGoes, Reports, IsNext, StartsFrom, GoesOnFrom}
+use Rattle.syn_runs.specs.Picture.{ended, goes_on, RunsOver}
+use Rattle.syn_runs.specs.Picture as picture
+use Rattle.syn_runs.specs.Headline.{IsStart}
+use Rattle.syn_runs.proofs.Invariant.{Plans, IsKept}
+use Rattle.syn_runs.proofs.CourseLemmas.{Course, beside, starts, ticks, takes, course}
+use Rattle.syn_runs.proofs.AdvanceLemmas.{step_advances}
+use Rattle.syn_runs.proofs.WholeRuns.{no_plans, start_kept}
 
 abbrev pub WasStarted : List Ack → ℕ → Type 0
 WasStarted acks session = Contains acks (Kept_by (Session session))

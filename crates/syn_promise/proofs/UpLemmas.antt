@@ -2,17 +2,17 @@
 use Rattle.std.proofs.Common.{◌≡◌, ◌⊎◌, ◌∙◌, ℕ, List, [], ◌++◌, map, Option, Some, refl, ap, inl}
 use Rattle.std.proofs.Common.{inr, append-nil}
 use Rattle.syn_model.specs.Archive.{Kept}
-use Rattle.syn_headline.specs.Machine.{Up}
-use Rattle.syn_headline.specs.Side.{Reply}
-use Rattle.syn_headline.specs.Network.{Which, Message, Answers}
-use Rattle.syn_headline.specs.Planning.{Planned}
-use Rattle.syn_headline.specs.Coordinator.{CoordinatorMachine, Call, Walk, Exchange, Running, past}
-use Rattle.syn_headline.specs.Coordinator.{refusing, Advances, Takes, CoordinatorTakes, start_of}
-use Rattle.syn_headline.specs.Coordinator as coordinator
-use Rattle.syn_headline.specs.Acknowledged.{Kept_by}
-use Rattle.syn_headline.specs.World.{World, Delivers, no_message, to_no_side, to_side}
-use Rattle.syn_headline.specs.World.{to_coordinator, coordinator_goes}
-use Rattle.syn_headline.specs.Runs.{picture_of}
+use Rattle.syn_machine.specs.Machine.{Up}
+use Rattle.syn_machine.specs.Side.{Reply}
+use Rattle.syn_machine.specs.Network.{Which, Message, Answers}
+use Rattle.syn_machine.specs.Planning.{Planned}
+use Rattle.syn_machine.specs.Coordinator.{CoordinatorMachine, Call, Walk, Exchange, Running, past}
+use Rattle.syn_machine.specs.Coordinator.{refusing, Advances, Takes, CoordinatorTakes, start_of}
+use Rattle.syn_machine.specs.Coordinator as coordinator
+use Rattle.syn_runs.specs.Acknowledged.{Kept_by}
+use Rattle.syn_runs.specs.World.{World, Delivers, no_message, to_no_side, to_side}
+use Rattle.syn_runs.specs.World.{to_coordinator, coordinator_goes}
+use Rattle.syn_runs.specs.Runs.{picture_of}
 use Rattle.syn_promise.proofs.LeaveLemmas.{RecordsIfUp}
 
 advances_if_up : (pair : ℕ) (plan : List Planned) (taken : Exchange) (walk later : Walk)

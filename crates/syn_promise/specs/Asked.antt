@@ -2,12 +2,12 @@
 use Rattle.std.specs.Prelude.{ℕ, ◌≡◌, List, [], ◌∷◌, ◌++◌, Option, IfSome, IsSomeAnd, All, Contains}
 use Rattle.syn_model.specs.Refusal.{Refusal}
 use Rattle.syn_model.specs.Event.{Edit, Event, Edited, Began, Replaced}
-use Rattle.syn_headline.specs.Machine.{Up}
-use Rattle.syn_headline.specs.Network.{Which}
-use Rattle.syn_headline.specs.World.{Step, Edits, Start}
-use Rattle.syn_headline.specs.Acknowledged.{Ack, Happened, Kept_by, Stores}
-use Rattle.syn_headline.specs.Picture.{Picture, Follows, side_of}
-use Rattle.syn_headline.specs.Headline.{IsRunFrom}
+use Rattle.syn_machine.specs.Machine.{Up}
+use Rattle.syn_machine.specs.Network.{Which}
+use Rattle.syn_runs.specs.World.{Step, Edits, Start}
+use Rattle.syn_runs.specs.Acknowledged.{Ack, Happened, Kept_by, Stores}
+use Rattle.syn_runs.specs.Picture.{Picture, Follows, side_of}
+use Rattle.syn_runs.specs.Headline.{IsRunFrom}
 
 -- a user's event is that of a step
 abbrev pub IsAskedEvent : List Step → Which → Event → Type 0

@@ -1,8 +1,8 @@
 -- Whether a machine is on, as the steps and what they were refused tell.
 use Rattle.std.specs.Prelude.{zero, suc, ◌≡◌, ◌⊎◌, Bool, true, false, if◌then◌else◌, List, []}
 use Rattle.syn_model.specs.Refusal.{Refusal}
-use Rattle.syn_headline.specs.Network.{is_side}
-use Rattle.syn_headline.specs.World.{Machine, At, Coordinator, Step, Stop, Open}
+use Rattle.syn_machine.specs.Network.{is_side}
+use Rattle.syn_runs.specs.World.{Machine, At, Coordinator, Step, Stop, Open}
 
 -- it is on; it is on, and a stop of it is to come; or it is off
 pub data Power : Type 0 where

@@ -7,16 +7,16 @@ use Rattle.syn_model.specs.Event.{Token, Replaced}
 use Rattle.syn_model.specs.History.{History}
 use Rattle.syn_model.specs.Refusal.{BadMessage}
 use Rattle.syn_model.specs.Archive.{Session, BothHeld}
-use Rattle.syn_headline.specs.Network.{Which}
-use Rattle.syn_headline.specs.World.{Machine, At, Coordinator, Step}
-use Rattle.syn_headline.specs.Acknowledged.{Ack, Kept_by, Stores, history_of}
-use Rattle.syn_headline.specs.Acknowledged.{stores_after, kept_in_session}
-use Rattle.syn_headline.specs.Planning.{SessionPlan, Log}
-use Rattle.syn_headline.specs.Report.{Report}
-use Rattle.syn_headline.specs.Headline.{IsQuietSession, IsOtherToken, PlansWith}
+use Rattle.syn_machine.specs.Network.{Which}
+use Rattle.syn_runs.specs.World.{Machine, At, Coordinator, Step}
+use Rattle.syn_runs.specs.Acknowledged.{Ack, Kept_by, Stores, history_of}
+use Rattle.syn_runs.specs.Acknowledged.{stores_after, kept_in_session}
+use Rattle.syn_machine.specs.Planning.{SessionPlan, Log}
+use Rattle.syn_machine.specs.Report.{Report}
+use Rattle.syn_runs.specs.Headline.{IsQuietSession, IsOtherToken, PlansWith}
 pub use Rattle.syn_promise.specs.Told.{Told}
 use Rattle.syn_promise.specs.Steps.{Condition, Started, Come}
-use Rattle.syn_promise.specs.Records.{IsDue}
+use Rattle.syn_promise.specs.Records.{KeepsToPlan}
 use Rattle.syn_promise.specs.Sessions.{IsPlanned, Synchronizes, Tells}
 
 -- a machine stands for the same in both
@@ -52,15 +52,14 @@ pub record Promised (before : Stores) (steps : List Step) (told : Told) (now : S
   pub stand : (machine : Machine) → AreSame machine now (stores_after before told.acknowledged)
       ⊎ IsSomeAnd (conditions machine).making
       (λ ack. AreSame machine now (stores_after before (told.acknowledged ++ ack ∷ [])))
-  -- each change was due when it was written: the rules allowed it, and one of a session kept to its
-  -- plan
+  -- each change was due when it was written: one of a session kept to its plan
   pub due : (earlier later : List Ack) (ack : Ack) → told.acknowledged ≡ earlier ++ ack ∷ later →
-      IsDue sessions (stores_after before earlier) ack
+      KeepsToPlan sessions (stores_after before earlier) ack
   -- so is one that stands though it was not acknowledged
   pub unacknowledged_due : (machine : Machine) (ack : Ack) →
       (conditions machine).making ≡ Some ack →
       AreSame machine now (stores_after before (told.acknowledged ++ ack ∷ [])) →
-      IsDue sessions (stores_after before told.acknowledged) ack
+      KeepsToPlan sessions (stores_after before told.acknowledged) ack
   -- each entry of the archive was held by both sides
   pub held : BothHeld now.left now.right now.archive.marks
   -- a session makes one plan, of what it found
@@ -75,7 +74,7 @@ pub record Promised (before : Stores) (steps : List Step) (told : Told) (now : S
   pub synchronized : (report : Report) (found after : Stores) →
       IsQuietSession before told.acknowledged told.reports report found after →
       (preference : Option Which) × PlansWith sessions report.session preference
-      × Synchronizes preference report found after
+      × Synchronizes preference found after
   -- a session makes one report, of what it did
   pub one_report : AllPairs (λ earlier later. earlier.0.session ≢ later.0.session) told.reports
   pub reported : All (Reports before started sessions told.acknowledged) told.reports

@@ -5,17 +5,17 @@ use Rattle.syn_model.specs.Refusal.{Refusal}
 use Rattle.syn_model.specs.Path.{Path}
 use Rattle.syn_model.specs.Tree.{Tree}
 use Rattle.syn_model.specs.Event.{Token, Replaced}
-use Rattle.syn_model.specs.History.{History, IsAllowed}
-use Rattle.syn_model.specs.Archive.{Kept, Recorded, RecordedDir, CanKeep}
-use Rattle.syn_headline.specs.Session.{record_for}
-use Rattle.syn_headline.specs.Side.{token_of}
-use Rattle.syn_headline.specs.Network.{Which}
-use Rattle.syn_headline.specs.Planning.{Planned, SessionPlan, Log, WritesTo}
-use Rattle.syn_headline.specs.World.{Step}
-use Rattle.syn_headline.specs.Acknowledged.{Ack, Happened, Kept_by, Stores, history_of}
-use Rattle.syn_headline.specs.Acknowledged.{stores_after}
-use Rattle.syn_headline.specs.Picture.{Picture}
-use Rattle.syn_headline.specs.Headline.{IsRunFrom}
+use Rattle.syn_model.specs.History.{History}
+use Rattle.syn_model.specs.Archive.{Kept, Recorded, RecordedDir}
+use Rattle.syn_machine.specs.Session.{record_for}
+use Rattle.syn_machine.specs.Side.{token_of}
+use Rattle.syn_machine.specs.Network.{Which}
+use Rattle.syn_machine.specs.Planning.{Planned, SessionPlan, Log, WritesTo}
+use Rattle.syn_runs.specs.World.{Step}
+use Rattle.syn_runs.specs.Acknowledged.{Ack, Happened, Kept_by, Stores, history_of}
+use Rattle.syn_runs.specs.Acknowledged.{stores_after}
+use Rattle.syn_runs.specs.Picture.{Picture}
+use Rattle.syn_runs.specs.Headline.{IsRunFrom}
 use Rattle.syn_promise.specs.Sessions.{IsLegal}
 
 -- a replacement with this token stands in the history
@@ -47,18 +47,6 @@ KeepsToPlan sessions stands (Kept_by (Recorded path marks)) =
 KeepsToPlan sessions stands (Kept_by (RecordedDir path)) =
     IsOfItem sessions stands (RecordedDir path)
 KeepsToPlan sessions stands _ = Unit {0}
-
--- The rules allow the change, where the machines stand for this: an event after the history of its
--- side, and what is kept after the archive. A late session thus adds nothing to a side that has
--- begun a later one
-abbrev pub IsAllowedBy : Stores → Ack → Type 0
-IsAllowedBy stands (Happened side event) = IsAllowed (history_of stands side) event
-IsAllowedBy stands (Kept_by kept) = CanKeep stands.archive kept
-
--- a change is due, where it is written as the machines stand for this
-pub record IsDue (sessions : Log) (stands : Stores) (change : Ack) : Type 0 where
-  pub allowed : IsAllowedBy stands change
-  pub to_plan : KeepsToPlan sessions stands change
 
 -- all that a run of the picture records keeps to its plan, and so does what it was recording as its
 -- machine stopped or its device failed

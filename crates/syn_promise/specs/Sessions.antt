@@ -12,46 +12,46 @@ use Rattle.syn_model.specs.Mark.{mark, AreApart}
 use Rattle.syn_model.specs.Archive.{Kept}
 use Rattle.syn_model.specs.Dirty.{IsScanBy}
 use Rattle.syn_model.specs.Decision.{path_of}
-use Rattle.syn_model.specs.Plan.{plan, IsSynchronized, IsReconciled, AreEqual, IsConflict}
-use Rattle.syn_headline.specs.Network.{Which, Left, Right, other}
-use Rattle.syn_headline.specs.Acknowledged.{Ack, Stores, history_of, stores_after, MayOverwrite}
-use Rattle.syn_headline.specs.Acknowledged.{kept_in_session}
-use Rattle.syn_headline.specs.Planning.{Planned, seen_on, SeesBoth, SessionPlan, Log, WritesTo}
-use Rattle.syn_headline.specs.Headline.{trees_of, HasCounts, UntouchedSince, AreMarked}
-use Rattle.syn_headline.specs.Report.{Report, Complete, Incomplete, is_kept, is_carrying}
-use Rattle.syn_headline.specs.Report.{is_marking, conflict_at}
-use Rattle.syn_headline.specs.Reported.{IsSettledBy}
+use Rattle.syn_model.specs.Plan.{plan, IsSynchronized, IsReconciled, AreEqual}
+use Rattle.syn_machine.specs.Network.{Which, Left, Right, other}
+use Rattle.syn_runs.specs.Acknowledged.{Ack, Stores, history_of, stores_after, MayOverwrite}
+use Rattle.syn_runs.specs.Acknowledged.{kept_in_session}
+use Rattle.syn_machine.specs.Planning.{Planned, seen_on, SeesBoth, SessionPlan, Log, WritesTo}
+use Rattle.syn_runs.specs.Headline.{trees_of, UntouchedSince, AreMarked}
+use Rattle.syn_machine.specs.Report.{Report, Complete, Incomplete, is_kept, is_carrying}
+use Rattle.syn_machine.specs.Report.{is_marking, conflict_at}
+use Rattle.syn_runs.specs.Reported.{IsSettledBy}
 use Rattle.syn_promise.specs.Steps.{Started}
 
 -- What a session looks at
 
 -- a position that the side has come to, by which the session had begun there
-pub record IsSeenAt (history : History) (session position : ℕ) : Type 0 where
+pub record IsAfterBegin (history : History) (session position : ℕ) : Type 0 where
   pub reached : position ≤ length history
   pub begun : session ≤ last_session (take position history)
 
 -- at that position the path was a directory with these entries, by marks
 pub record WasDirectory (history : History) (session : ℕ) (path : Path) (position : ℕ)
     (entries : List (Name × Content)) : Type 0 where
-  pub seen : IsSeenAt history session position
+  pub after_begin : IsAfterBegin history session position
   pub directory : is_directory (tree_at history position) path ≡ true
   pub entries_are : entries ≡ children (mark (tree_at history position)) path
 
 -- and at that one it was none
 pub record WasNoDirectory (history : History) (session : ℕ) (path : Path) (position : ℕ) :
     Type 0 where
-  pub seen : IsSeenAt history session position
+  pub after_begin : IsAfterBegin history session position
   pub none : is_directory (tree_at history position) path ≡ false
 
 -- The plan is that of what the session found: it was the last that was started, and both sides had
 -- begun it. Its two scans show what the sides had come to by then, each directory at its position;
 -- its items are those of the scans, of the archive as it was, and of what the session prefers
-pub record PlansFrom (found : Stores) (made : SessionPlan) : Type 0 where
-  pub last : found.archive.last_session ≡ made.session
-  pub begun : (side : Which) → last_session (history_of found side) ≡ made.session
-  pub scanned : (side : Which) → IsScanBy (WasDirectory (history_of found side) made.session)
-      (WasNoDirectory (history_of found side) made.session) (made.scan side) (made.since side)
-  pub archive : made.archive ≡ found.archive.marks
+pub record PlansFrom (stands : Stores) (made : SessionPlan) : Type 0 where
+  pub last : stands.archive.last_session ≡ made.session
+  pub begun : (side : Which) → last_session (history_of stands side) ≡ made.session
+  pub scanned : (side : Which) → IsScanBy (WasDirectory (history_of stands side) made.session)
+      (WasNoDirectory (history_of stands side) made.session) (made.scan side) (made.since side)
+  pub archive : made.archive ≡ stands.archive.marks
   pub items : map (λ planned. planned.item) made.plan ≡ plan made.preference (made.scan Left)
       (made.scan Right) made.archive
   pub seen : All (SeesBoth made.scan made.since) made.plan
@@ -70,7 +70,7 @@ pub record IsPlanned (before : Stores) (started : List Started) (acknowledged : 
 -- what the side had at the path, in a directory, as the session looked there
 pub record WasHeld (history : History) (session : ℕ) (path : Path) (position : ℕ) (part : Tree) :
     Type 0 where
-  pub seen : IsSeenAt history session position
+  pub after_begin : IsAfterBegin history session position
   pub directory : is_directory (tree_at history position) (parent path) ≡ true
   pub held : part ≡ subtree (tree_at history position) path
 
@@ -84,7 +84,7 @@ pub record IsLegal (sessions : Log) (side : Which) (written : Stores) (token : T
   pub of_session : Contains sessions made × (made.session ≡ token.session)
   pub planned : Planned
   pub item : (slice_get made.plan token.item ≡ Some planned) × WritesTo planned.item side path
-  pub looked : IsSeenAt (history_of written side) token.session since
+  pub after_begin : IsAfterBegin (history_of written side) token.session since
   pub at : since ≡ (seen_on planned side).since
   pub untouched :
       is_quiet (history_of written side) since (length (history_of written side)) path ≡ true
@@ -111,18 +111,13 @@ pub record WasCarried (found : Stores) (side : Which) (path : Path) (part : Tree
   pub still : UntouchedSince position (history_of found (other side)) path
 
 -- It found this, and left that: the synchronization of what it found, and the archive of it; equal
--- sides, where it prefers one; the conflicts and counts that it reports; and the record of what was
--- carried before, even if that was lost
-pub record Synchronizes (preference : Option Which) (report : Report) (found after : Stores) :
-    Type 0 where
+-- sides, where it prefers one; and the record of what was carried before, even if that was lost
+pub record Synchronizes (preference : Option Which) (found after : Stores) : Type 0 where
   pub sides : AreApart (tree_of found.left) (tree_of found.right) →
       IsSynchronized preference (trees_of found) (trees_of after)
   pub equal : AreApart (tree_of found.left) (tree_of found.right) → preference ≢ None →
       AreEqual (trees_of after)
   pub archive : IsReconciled preference (trees_of found) (trees_of after)
-  pub conflicts : (path : Path) → Contains report.conflicts path
-      ↔ IsConflict preference (tree_of found.left) (tree_of found.right) found.archive.marks path
-  pub counts : HasCounts preference found report
   pub carried : (side : Which) (path : Path) (part : Tree) → WasCarried found side path part →
       AreMarked after path part
 
@@ -147,7 +142,7 @@ pub record TellsOf (plan : List Planned) (kept : List Kept) (report : Report) : 
   pub parts : plan ≡ passed ++ rest
   pub to_the_end : report.ended ≡ None → rest ≡ []
   pub settled : All (IsSettledBy kept report.refused) passed
-  pub apart : All (λ planned. is_kept kept planned.item ≡ true →
+  pub not_both : All (λ planned. is_kept kept planned.item ≡ true →
       All (λ refused. refused.1 ≢ path_of planned.item) report.refused) plan
   pub refused : All (λ refused. IsRefusable plan refused.1) report.refused
   pub conflicts : report.conflicts ≡ filter_map (λ planned. conflict_at planned.item) passed

@@ -5,11 +5,11 @@ use Rattle.syn_model.specs.Refusal.{Refusal, Busy, Device, Full, Halted, Journal
 use Rattle.syn_model.specs.Event.{Edit, Event, Edited, Began}
 use Rattle.syn_model.specs.History.{event_refusal}
 use Rattle.syn_model.specs.Archive.{Kept, Session}
-use Rattle.syn_headline.specs.Network.{Which}
-use Rattle.syn_headline.specs.World.{Machine, At, Coordinator, Step, Edits, Start, Deliver}
-use Rattle.syn_headline.specs.World.{Checkpoint, Open, Reopen}
-use Rattle.syn_headline.specs.Acknowledged.{Ack, Happened, Kept_by, Stores, history_of}
-use Rattle.syn_headline.specs.Acknowledged.{stores_after}
+use Rattle.syn_machine.specs.Network.{Which}
+use Rattle.syn_runs.specs.World.{Machine, At, Coordinator, Step, Edits, Start, Deliver}
+use Rattle.syn_runs.specs.World.{Checkpoint, Open, Reopen}
+use Rattle.syn_runs.specs.Acknowledged.{Ack, Happened, Kept_by, Stores, history_of}
+use Rattle.syn_runs.specs.Acknowledged.{stores_after}
 use Rattle.syn_promise.specs.Power.{Power, On, Off, Turns}
 
 -- Whether a machine is on or off; and the change that it was making as it stopped or as its device

@@ -1,8 +1,8 @@
 -- What a run told.
 use Rattle.std.specs.Prelude.{ℕ, List}
 use Rattle.syn_model.specs.Refusal.{Refusal}
-use Rattle.syn_headline.specs.Acknowledged.{Ack}
-use Rattle.syn_headline.specs.Report.{Report}
+use Rattle.syn_runs.specs.Acknowledged.{Ack}
+use Rattle.syn_machine.specs.Report.{Report}
 
 -- What was acknowledged, and what users were refused, each in order of time; and the reports, each
 -- with how much was acknowledged as its session ended

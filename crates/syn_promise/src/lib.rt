@@ -10,10 +10,9 @@
 //! - `Come` (`Steps.antt`): each step was made as it was asked for, or its user was told why not,
 //!   or its machine was off, as stops and openings leave it (`Power.antt`). What a machine was
 //!   making as it stopped is in its `Condition`: at most that stands beside what was acknowledged.
-//! - `IsDue` (`Records.antt`): each change was due when it was written, and so was one that a stop
-//!   cut off. The rules allowed it: no session adds to a side that has begun a later one. A
-//!   replacement is legal, and a record is of an item of the last session's plan, whose part was
-//!   put before it.
+//! - `KeepsToPlan` (`Records.antt`): each change of a session kept to its plan when it was written,
+//!   and so did one that a stop cut off. A replacement is legal, and a record is of an item of the
+//!   last session's plan, whose part was put before it.
 //! - `IsPlanned`, `IsLegal`, `Synchronizes` and `Tells` (`Sessions.antt`): what a session looks at,
 //!   puts, leaves and reports.
 //!
@@ -22,14 +21,16 @@
 //! that does nothing and tells nobody, is none.
 //!
 //! `promise` says that every run of the world keeps it. Each sentence follows from those of
-//! `syn_headline`, of the world's picture: what a side answered was so, since no answer of a run is
-//! false.
+//! `syn_runs`, of the world's picture: what a side answered was so, since no answer of a run is
+//! false. It also says that the rules of the model allow each change as it is written
+//! (`AllowsEachChange`): no session adds to a side that has begun a later one.
 #![tactic(auto)]
 
 ghost use Rattle.syn_promise.specs.Asked.{EditsAreAsked, PreferencesAreAsked, EditsAreMade};
 ghost use Rattle.syn_promise.specs.Asked.{StartsAreMade};
-ghost use Rattle.syn_promise.specs.Laws.{RunsKeepPromise};
+ghost use Rattle.syn_promise.specs.Laws.{AllowsEachChange, RunsKeepPromise};
 ghost use Rattle.syn_promise.specs.Records.{RecordsKeepToPlan};
+ghost use Rattle.syn_runs.specs.Runs.{OfEachRun};
 
 /// A run of the picture does what its steps ask for, and nothing that none asks for. Each edit that
 /// a side acknowledges, or was making, is a step, and so is a start with the preference of each
@@ -43,11 +44,13 @@ pub fn asked()
     ensures started { StartsAreMade }
 {}
 
-/// Every run of the world keeps its promise, whatever its disks may stand for after it.
+/// Every run of the world keeps its promise, whatever its disks may stand for after it, and the
+/// rules allow each change that it acknowledges.
 pub fn promise()
     ensures kept { RunsKeepPromise }
+    ensures allowed { OfEachRun AllowsEachChange }
 {
-    syn_headline::run_laws();
-    syn_headline::session_laws();
+    syn_runs::run_laws();
+    syn_runs::session_laws();
     asked();
 }

@@ -2,10 +2,10 @@
 use Rattle.std.proofs.Common.{◌≡◌, ◌+◌, ◌<◌, ◌≤◌, ◌∙◌, ℕ, suc, true, ◌++◌, length}
 use Rattle.std.proofs.Common.{Option, Some, None, Result, Ok, Err, ◌⊎◌, inl, ap, arith}
 use Rattle.std.proofs.Common.{refl, subst, sym, MatchResult, length-append}
-use Rattle.syn_headline.specs.Network.{Which}
-use Rattle.syn_headline.specs.Session.{WasTaken, fault_of, fits_piece, is_wanted, piece_total}
-use Rattle.syn_headline.specs.Side.{Request, Fetch, Stage, Replace, IsLawfulBody, Piece, Staged}
-use Rattle.syn_headline.specs.Side as model
+use Rattle.syn_machine.specs.Network.{Which}
+use Rattle.syn_machine.specs.Session.{WasTaken, fault_of, fits_piece, is_wanted, piece_total}
+use Rattle.syn_machine.specs.Side.{Request, Fetch, Stage, Replace, IsLawfulBody, Piece, Staged}
+use Rattle.syn_machine.specs.Side as model
 use Rattle.syn_model.specs.Path.{Bytes}
 use Rattle.syn_model.specs.Refusal.{Refusal, BadMessage}
 use Rattle.std.specs.Prelude.{not, if◌then◌else◌}

@@ -11,10 +11,10 @@ use Rattle.std.specs.Cmp.Lexicographic.{lists_total, nat_list_cmp_total}
 use Rattle.std.specs.List.{cons_option}
 use Rattle.std.specs.Ordering.{eq_by_cmp}
 use Rattle.std.specs.Prelude.{Contains, slice_get, if◌then◌else◌, filter_map, ◌==◌}
-use Rattle.syn_headline.specs.Network.{Which, IsRepeat}
-use Rattle.syn_headline.specs.Session.{Exchange, WasTaken, first_total, fits_piece, is_wanted}
-use Rattle.syn_headline.specs.Session.{piece_total}
-use Rattle.syn_headline.specs.Side.{Request, Begin, ListAt, Fetch, Stage, Replace, Reply, Piece}
+use Rattle.syn_machine.specs.Network.{Which, IsRepeat}
+use Rattle.syn_machine.specs.Session.{Exchange, WasTaken, first_total, fits_piece, is_wanted}
+use Rattle.syn_machine.specs.Session.{piece_total}
+use Rattle.syn_machine.specs.Side.{Request, Begin, ListAt, Fetch, Stage, Replace, Reply, Piece}
 use Rattle.syn_model.specs.Path.{Bytes, Path, path_cmp}
 use Rattle.syn_propagate.specs.Carrying.{Exchanges, AreEarlier, IsEarlier, IsNew, IsStagedTo}
 use Rattle.syn_propagate.specs.Carrying.{IsWhole, WasFetched, WasStaged, nothing, piece}

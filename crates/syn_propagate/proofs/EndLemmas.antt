@@ -1,8 +1,8 @@
 -- What a transfer asks after an answer that is not the last.
 use Rattle.std.proofs.Common.{◌≡◌, false, Result, Ok, Err}
 use Rattle.std.specs.Prelude.{IfOk}
-use Rattle.syn_headline.specs.Coordinator.{is_last}
-use Rattle.syn_headline.specs.Side.{Request}
+use Rattle.syn_machine.specs.Coordinator.{is_last}
+use Rattle.syn_machine.specs.Side.{Request}
 use Rattle.syn_message.specs.Replies.{reply_of}
 use Rattle.syn_message.specs.declared.reply.Reply.{Reply}
 use Rattle.syn_propagate.specs.Transfers.{EndsBy, IsAsking}

@@ -2,10 +2,10 @@
 use Rattle.std.proofs.Common.{◌≡◌, ◌⊎◌, ◌∙◌, ℕ, Option, Some, None, Result, Ok, Err, ap}
 use Rattle.std.proofs.Common.{MatchResult, subst, sym}
 use Rattle.std.specs.Option.{unwrap_or}
-use Rattle.syn_headline.specs.Network.{Which}
-use Rattle.syn_headline.specs.Session.{fault_of}
-use Rattle.syn_headline.specs.Side.{Request, Fetch, Reply, Piece, Staged}
-use Rattle.syn_headline.specs.Side as model
+use Rattle.syn_machine.specs.Network.{Which}
+use Rattle.syn_machine.specs.Session.{fault_of}
+use Rattle.syn_machine.specs.Side.{Request, Fetch, Reply, Piece, Staged}
+use Rattle.syn_machine.specs.Side as model
 use Rattle.syn_message.specs.declared.reply.Reply.{Reply as Answer}
 use Rattle.syn_model.specs.Path.{Bytes}
 use Rattle.syn_model.specs.Refusal.{Refusal}

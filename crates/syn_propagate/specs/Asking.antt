@@ -1,7 +1,7 @@
 -- What a transfer asks for.
 use Rattle.std.specs.Prelude.{◌≡◌}
-use Rattle.syn_headline.specs.Network.{Which}
-use Rattle.syn_headline.specs.Side.{Request}
+use Rattle.syn_machine.specs.Network.{Which}
+use Rattle.syn_machine.specs.Side.{Request}
 use Rattle.syn_message.specs.Requests.{request_of}
 use Rattle.syn_path.specs.Sides.{which_of}
 use Rattle.syn_propagate.specs.declared.next.Next.{Next}

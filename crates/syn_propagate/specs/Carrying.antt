@@ -2,10 +2,10 @@
 -- session.
 use Rattle.std.specs.Prelude.{◌≡◌, ◌≢◌, ◌⊎◌, ◌+◌, ◌<◌, ℕ, true, List, [], ◌++◌, length, None}
 use Rattle.std.specs.Prelude.{Contains}
-use Rattle.syn_headline.specs.Network.{Which, other, IsRepeat}
-use Rattle.syn_headline.specs.Session.{Exchange, WasTaken, first_total, is_wanted}
-use Rattle.syn_headline.specs.Side.{Request, Begin, ListAt, Fetch, Stage, Replace}
-use Rattle.syn_headline.specs.Side.{Piece, Staged, Done}
+use Rattle.syn_machine.specs.Network.{Which, other, IsRepeat}
+use Rattle.syn_machine.specs.Session.{Exchange, WasTaken, first_total, is_wanted}
+use Rattle.syn_machine.specs.Side.{Request, Begin, ListAt, Fetch, Stage, Replace}
+use Rattle.syn_machine.specs.Side.{Piece, Staged, Done}
 use Rattle.syn_model.specs.Path.{Bytes}
 use Rattle.syn_path.specs.Sides.{which_of}
 use Rattle.syn_propagate.specs.declared.transfer_spec.TransferSpec.{TransferSpec}

@@ -1,10 +1,10 @@
 -- What a transfer asks for next, and what it answers.
 use Rattle.std.specs.Prelude.{◌≡◌, ◌⊎◌, ◌++◌, ℕ, false, [], ◌∷◌, Option, None, Some, IsSome, Result}
 use Rattle.std.specs.Prelude.{Ok, Err}
-use Rattle.syn_headline.specs.Network.{Which}
-use Rattle.syn_headline.specs.Coordinator.{is_last}
-use Rattle.syn_headline.specs.Side.{Request, Fetch, Stage, Replace, IsLawfulBody}
-use Rattle.syn_headline.specs.Side as model
+use Rattle.syn_machine.specs.Network.{Which}
+use Rattle.syn_machine.specs.Coordinator.{is_last}
+use Rattle.syn_machine.specs.Side.{Request, Fetch, Stage, Replace, IsLawfulBody}
+use Rattle.syn_machine.specs.Side as model
 use Rattle.syn_message.specs.Requests.{request_of}
 use Rattle.syn_path.specs.Sides.{which_of}
 use Rattle.syn_message.specs.declared.reply.Reply.{Reply}

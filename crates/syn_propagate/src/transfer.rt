@@ -1,9 +1,9 @@
 //! A transfer, from what was answered last to what is asked next.
 ghost use Rattle.std.specs.Prelude.{◌≡◌, ◌⊎◌, ℕ, [], Some, None, Err, Ok, IfOk, IfErr, OnErr};
 ghost use Rattle.std.specs.Prelude.{MatchResult};
-ghost use Rattle.syn_headline.specs.Network.{Which};
-ghost use Rattle.syn_headline.specs.Session.{fault_of, fits_piece};
-ghost use Rattle.syn_headline.specs.Side.{Request as Asked, Fetch, Piece};
+ghost use Rattle.syn_machine.specs.Network.{Which};
+ghost use Rattle.syn_machine.specs.Session.{fault_of, fits_piece};
+ghost use Rattle.syn_machine.specs.Side.{Request as Asked, Fetch, Piece};
 ghost use Rattle.syn_message.specs.Replies.{reply_of};
 ghost use Rattle.syn_message.specs.declared.reply.Reply.{Reply as Answer};
 ghost use Rattle.syn_message.specs.declared.reply.Reply.TheVariants as answer;

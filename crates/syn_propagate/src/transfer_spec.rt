@@ -1,6 +1,6 @@
 //! What a transfer carries, and what it asks for that.
 ghost use Rattle.std.specs.Prelude.{◌≡◌, IfErr, IfOk};
-ghost use Rattle.syn_headline.specs.Side.{IsLawfulBody, Fetch, Stage, Replace};
+ghost use Rattle.syn_machine.specs.Side.{IsLawfulBody, Fetch, Stage, Replace};
 ghost use Rattle.syn_model.specs.Path.{IsPath};
 
 use crate::error::TransferError;

@@ -28,7 +28,7 @@ use Rattle.syn_scan.specs.declared.error.ScanError.{ScanError}
 use Rattle.syn_scan.specs.declared.error.ScanError.TheVariants.{BadMessage, Memory, TooLarge}
 use Rattle.syn_scan.proofs.FoundLemmas.{opened}
 use Rattle.syn_scan.proofs.ListingLemmas.{not_too_large}
-use Rattle.syn_headline.proofs.ShownLemmas.{scan_is_tree}
+use Rattle.syn_model.proofs.ShownLemmas.{scan_is_tree}
 
 -- nothing waits, nothing was answered as no directory, and each listing is one of the tree
 pub record IsScannedSo (tree : Tree) (asked : Asked) : Type 0 where

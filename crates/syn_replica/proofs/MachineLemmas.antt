@@ -3,9 +3,9 @@ use Rattle.std.proofs.Common.{◌≡◌, ◌≢◌, ◌∙◌, ◌-◌, ◌++◌
 use Rattle.std.proofs.Common.{Err, ap, refl, sym, subst}
 use Rattle.std.specs.Prelude.{IsErrAnd}
 use Rattle.syn_disk.specs.declared.disk.Disk.{Ghosts}
-use Rattle.syn_headline.specs.Machine.{Status, Up, Halted, Down, after_device, unarmed}
-use Rattle.syn_headline.specs.Machine.{with_image, with_record}
-use Rattle.syn_headline.specs.SideMachine.{side_layout}
+use Rattle.syn_machine.specs.Machine.{Status, Up, Halted, Down, after_device, unarmed}
+use Rattle.syn_machine.specs.Machine.{with_image, with_record}
+use Rattle.syn_machine.specs.SideMachine.{side_layout}
 use Rattle.syn_journal.specs.Endings.{ended}
 use Rattle.syn_journal.specs.Layout.{HasJournal}
 use Rattle.syn_journal.specs.Machines as machine

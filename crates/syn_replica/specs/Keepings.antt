@@ -1,6 +1,6 @@
 -- How the machine of a side keeps its history.
 use Rattle.std.specs.Prelude.{ℕ}
-use Rattle.syn_headline.specs.SideMachine.{side_layout}
+use Rattle.syn_machine.specs.SideMachine.{side_layout}
 use Rattle.syn_journal.specs.Meaning.{Keeping}
 use Rattle.syn_model.specs.Event.{Event}
 use Rattle.syn_model.specs.History.{History, IsAllowed}

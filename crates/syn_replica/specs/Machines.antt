@@ -2,9 +2,9 @@
 use Rattle.std.specs.Prelude.{◌≡◌, ◌≢◌, ◌≤◌, ℕ, true, false, List, Option, Some, None}
 use Rattle.syn_disk.specs.Arms.{is_stopped}
 use Rattle.syn_disk.specs.declared.disk.Disk.{Ghosts}
-use Rattle.syn_headline.specs.Machine.{Arms, Journaled, Meets, Opens, Status, Up, Halted, Down}
-use Rattle.syn_headline.specs.Machine.{after_device, unarmed, with_image, with_record}
-use Rattle.syn_headline.specs.SideMachine.{side_layout}
+use Rattle.syn_machine.specs.Machine.{Arms, Journaled, Meets, Opens, Status, Up, Halted, Down}
+use Rattle.syn_machine.specs.Machine.{after_device, unarmed, with_image, with_record}
+use Rattle.syn_machine.specs.SideMachine.{side_layout}
 use Rattle.syn_journal.specs.Calls.{armed_at}
 use Rattle.syn_replica.specs.Keepings.{of_side}
 use Rattle.syn_journal.specs.Machines.{compacting, writing}

@@ -59,6 +59,8 @@
 //!   (`Digests`).
 //! - `get` gives what the tree holds at the path, and `list` the names of a directory. `tree` is
 //!   the tree itself, without a copy.
+//! - `status` tells where the replica is in its history, also while it is halted, and which path
+//!   the event at a place touched (`told`: `status_at`). It is refused 11 alone (`memory`).
 //! - `format` gives a replica that stands for no events, of the given pair.
 //! - No clause says what the calls after an opening do of a lawful image that comes from no
 //!   history.

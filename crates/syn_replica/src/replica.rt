@@ -47,6 +47,7 @@ mod migrate;
 mod parts;
 mod reopen;
 mod session;
+mod status;
 mod with_room;
 
 pub use listing::Listing;

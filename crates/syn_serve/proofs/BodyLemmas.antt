@@ -1,17 +1,24 @@
 -- The body of a reply goes into a frame.
-use Rattle.std.proofs.Common.{◌≡◌, ◌≤◌, ◌+◌, ◌*◌, ◌∷◌, [], length, Option, Some, None, arith}
+use Rattle.std.proofs.Common.{◌≡◌, ◌≤◌, ◌+◌, ◌*◌, ◌∷◌, ◌++◌, [], length, Option, Some, None, arith}
+use Rattle.std.proofs.Common.{Bool, true, false, refl}
 use Rattle.std.proofs.lemmas.List.{length-append}
 use Rattle.std.proofs.lemmas.List.Elements.{All-head, All-tail}
-use Rattle.std.specs.Prelude.{All, flat_map}
-use Rattle.syn_headline.specs.Side as model
+use Rattle.std.specs.Prelude.{All, IfSome, flat_map}
+use Rattle.std.specs.Int.{to_be_bytes, w64}
+use Rattle.syn_machine.specs.Side as model
+use Rattle.syn_history.specs.Status.{IsLawfulStatus, Status}
 use Rattle.syn_link.specs.Frames.{IsBody}
 use Rattle.syn_mark.specs.Marks.{IsDigestOrDirectory}
 use Rattle.syn_message.specs.Listings.{Entries, IsEntry, entry_spelling, mark_spelling}
 use Rattle.syn_message.specs.Replies.{IsLawfulReply, reply_fields}
+use Rattle.syn_message.specs.Statuses.{IsIdentity, IsStated, halted_spelling, identity_spelling}
+use Rattle.syn_message.specs.Statuses.{stated_spelling, status_spelling, touched_spelling}
 use Rattle.syn_message.specs.UserReplies as user
 use Rattle.syn_message.specs.UserReplies.{IsFound, IsLawfulUserReply, UserReply, found_spelling}
 use Rattle.syn_message.specs.UserReplies.{user_reply_fields}
-use Rattle.syn_model.specs.Path.{Name}
+use Rattle.syn_model.specs.Event.{Token}
+use Rattle.syn_model.specs.Image.{last_token_spelling}
+use Rattle.syn_model.specs.Path.{Bytes, IsPath, Name, Path}
 use Rattle.syn_model.specs.Tree.{Content, Directory, File}
 use Rattle.syn_serve.specs.Messages.{Answers, IsLawfulResponse, Response, Tells, response_spelling}
 
@@ -65,9 +72,54 @@ short_found (Some (File contents)) is =
     omega (arith, few, size)
 short_found (Some Directory) is = omega arith
 
+short_identity : (identity : Option Bytes) → IfSome identity IsIdentity
+    → length (identity_spelling identity) ≤ 17
+short_identity None is = omega arith
+short_identity (Some identity) is = let size = is.0 in omega (arith, size)
+
+short_touch : (touch : Option Path) → IfSome touch IsPath → length (touched_spelling touch) ≤ 256
+short_touch None is = omega arith
+short_touch (Some path) is = let size = is.not_long in omega (arith, size)
+
+short_token : (token : Option Token) → length (last_token_spelling token) ≤ 13
+short_token None = omega arith
+short_token (Some token) = omega arith
+
+short_halted : (halted : Bool) → length (halted_spelling halted) ≡ 1
+short_halted true = refl
+short_halted false = refl
+
+short_status : (status : Status) → IsLawfulStatus status → length (status_spelling status) ≤ 400
+short_status status is =
+    let token = short_token status.token in
+    let touch = short_touch status.touch is.touch in
+    let halted = short_halted status.halted in
+    omega (
+      arith,
+      token,
+      touch,
+      halted,
+      length-append (last_token_spelling status.token) (to_be_bytes w64 status.place
+          ++ (touched_spelling status.touch ++ halted_spelling status.halted)),
+      length-append (touched_spelling status.touch) (halted_spelling status.halted),
+    )
+
+short_stated : (identity : Option Bytes) (status : Status) → IsStated (identity, status)
+    → length (stated_spelling (identity, status)) ≤ 65000
+short_stated identity status is =
+    let known = short_identity identity is.0 in
+    let told = short_status status is.1 in
+    omega (
+      arith,
+      known,
+      told,
+      length-append (identity_spelling identity) (status_spelling status),
+    )
+
 short_told : (told : UserReply) → IsLawfulUserReply told → length (user_reply_fields told) ≤ 65000
 short_told (user.Edited position) is = omega arith
 short_told (user.Got found) is = short_found found is
+short_told (user.States identity status) is = short_stated identity status is
 short_told (user.Refused why) is = omega arith
 
 pub is_body : (response : Response) → IsLawfulResponse response

@@ -1,2 +1,4 @@
+pub mod BeginLemmas
 pub mod BodyLemmas
+pub mod OnceLemmas
 pub mod ServeLemmas

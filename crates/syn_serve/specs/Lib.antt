@@ -1,5 +1,6 @@
 pub mod Refusals
 pub mod Messages
+pub mod Begins
 pub mod Holds
 pub mod States
 pub mod Exchanges

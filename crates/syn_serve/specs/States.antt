@@ -1,5 +1,5 @@
 -- A connection as its contracts see it.
-use Rattle.std.specs.Prelude.{◌≡◌, ◌≢◌, ◌⊎◌, Option, Some}
+use Rattle.std.specs.Prelude.{◌≡◌, ◌≢◌, ◌⊎◌, ℕ, Option, Some}
 use Rattle.std.specs.Io.KnownBytes.{Appends}
 use Rattle.syn_agent.specs.declared.agent.Agent.{Agent}
 use Rattle.syn_link.specs.Connections as link_of
@@ -9,15 +9,17 @@ use Rattle.syn_link.specs.declared.error.LinkError.TheVariants as link
 use Rattle.syn_serve.specs.Messages.{IsLawfulMessage, Message, message_spelling}
 use Rattle.syn_serve.specs.declared.connection.ServerConnection.{ServerConnection}
 use Rattle.syn_serve.specs.declared.error.ServeError.{ServeError}
-use Rattle.syn_serve.specs.declared.error.ServeError.TheVariants.{BadFrame, BadMessage, Device}
-use Rattle.syn_serve.specs.declared.error.ServeError.TheVariants.{Memory, TooLarge}
+use Rattle.syn_serve.specs.declared.error.ServeError.TheVariants.{BadFrame, BadMessage}
+use Rattle.syn_serve.specs.declared.error.ServeError.TheVariants.{BegunElsewhere, Device, Memory}
+use Rattle.syn_serve.specs.declared.error.ServeError.TheVariants.{TooLarge}
 
--- what its reader is to give, what came and was not handed out, the agent of its sessions, and what
--- its writer has
+-- what its reader is to give, what came and was not handed out, the agent of its sessions, the
+-- session that was begun over it last, and what its writer has
 pub record ConnectionState : Type 0 where
   pub given : Option Bytes
   pub held : Bytes
   pub agent : Agent
+  pub begun : Option ℕ
   pub written : Option Bytes
 
 module _ {R W : Type 0} where
@@ -34,18 +36,24 @@ module _ {R W : Type 0} where
   abbrev pub agent_of : ServerConnection R W → Agent
   agent_of server = server.agent
 
+  -- the session that was answered as begun over it last
+  abbrev pub begun_over : ServerConnection R W → Option ℕ
+  begun_over server = server.begun
+
   abbrev pub state_of : (R → Option Bytes) → (W → Option Bytes) → ServerConnection R W
       → ConnectionState
   state_of remaining contents server = record {
     given = remaining (reader_of server);
     held = held_by server;
     agent = server.agent;
+    begun = server.begun;
     written = contents (writer_of server);
   }
 
--- what is staged and what was written stay
+-- what is staged, what was begun and what was written stay
 abbrev pub IsSilent : ConnectionState → ConnectionState → Type 0
-IsSilent old new = (new.agent ≡ old.agent) × (new.written ≡ old.written)
+IsSilent old new =
+    (new.agent ≡ old.agent) × (new.written ≡ old.written) × (new.begun ≡ old.begun)
 
 -- the body came in a frame, first of what came
 abbrev pub Receives : ConnectionState → ConnectionState → Bytes → Type 0
@@ -59,7 +67,7 @@ Ends old new = EndsBefore old.given new.given old.held new.held
 abbrev pub IsNoMessage : Bytes → Type 0
 IsNoMessage body = (message : Message) → IsLawfulMessage message → body ≢ message_spelling message
 
--- Why a connection is closed before an answer: for the frame; for a body that is no message; for a
+-- Why a connection is closed before any hold: for the frame; for a body that is no message; for a
 -- read that failed; or for memory, also where a body came
 abbrev pub ClosesFor : ServeError → ConnectionState → ConnectionState → Type 0
 ClosesFor Device old new = ComesAtFault old.given new.given old.held new.held link.Device
@@ -68,6 +76,7 @@ ClosesFor Memory old new = ComesAtFault old.given new.given old.held new.held li
 ClosesFor BadFrame old new = ComesAtFault old.given new.given old.held new.held link.BadFrame
 ClosesFor TooLarge old new = ComesAtFault old.given new.given old.held new.held link.TooLarge
 ClosesFor BadMessage old new = (body : Bytes) × Receives old new body × IsNoMessage body
+ClosesFor BegunElsewhere old new = ⊥
 
 -- the body is written as a frame, whole
 abbrev pub Sends : Option Bytes → Option Bytes → Bytes → Type 0
@@ -80,3 +89,4 @@ BreaksOff Memory old new body = new ≡ old
 BreaksOff BadFrame old new body = ⊥
 BreaksOff TooLarge old new body = ⊥
 BreaksOff BadMessage old new body = ⊥
+BreaksOff BegunElsewhere old new body = ⊥

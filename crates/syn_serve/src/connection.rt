@@ -1,8 +1,10 @@
 //! A connection, and the exchanges over it.
 ghost use Rattle.std.specs.Prelude.{◌≡◌, [], IfErr, IfNone, IfOk, IfSome, None, OnOk};
 ghost use Rattle.syn_agent.specs.Agents.{staging_of};
+ghost use Rattle.syn_serve.specs.Begins.{begun_after};
 ghost use Rattle.syn_serve.specs.Exchanges.{Exchanges, moment};
 ghost use Rattle.syn_serve.specs.States.{BreaksOff, ClosesFor, Ends, IsSilent, Sends, agent_of};
+ghost use Rattle.syn_serve.specs.States.{begun_over};
 ghost use Rattle.syn_serve.specs.States.{held_by, state_of, reader_of, writer_of};
 ghost use Rattle.syn_serve.specs.Messages.{IsLawfulResponse, message_of, response_of};
 ghost use Rattle.syn_serve.specs.Messages.{response_spelling};
@@ -21,14 +23,17 @@ use syn_agent::Agent;
 use syn_disk::Disk;
 use syn_link::Connection;
 use syn_lock::Pass;
+use syn_message::{Reply, ReplyMessage};
 use syn_replica::Replica;
 use syn_shared::SharedReplica;
 
-/// A connection to the worker, and what a session over it has staged.
+/// A connection to the worker, what a session over it has staged, and which one was begun over it.
 #[derive(Drop)]
 pub struct ServerConnection<R, W> {
     connection: Connection<R, W>,
     agent: Agent,
+    /// The session that was answered as begun last.
+    begun: Option<u64>,
 }
 
 /// How an exchange ended.
@@ -47,10 +52,12 @@ impl<R: Read, W: Write> ServerConnection<R, W> {
         ensures writer { writer_of result ≡ writer }
         ensures held { held_by result ≡ [] }
         ensures staged { staging_of (agent_of result) ≡ None }
+        ensures begun { begun_over result ≡ None }
     {
         ServerConnection {
             connection: Connection::new(alloc, reader, writer),
             agent: Agent::new(),
+            begun: None,
         }
     }
 
@@ -65,8 +72,11 @@ impl<R: Read, W: Write> ServerConnection<R, W> {
     /// writes the reply. The pause is told before the hold and after it.
     ///
     /// Refused 21 and 22 where a frame with such a length comes, and 23 where a body comes that is
-    /// no message: it is answered nothing. Refused 9 where a read or the write fails, and 11 where
-    /// memory is refused. After any refusal the connection is to be closed.
+    /// no message: it is answered nothing. Refused 14 where a session's begin comes that would add
+    /// no event, since the replica has begun that session last, and this connection has not: then
+    /// another coordinator has taken the number too. It is answered nothing, and the replica stays.
+    /// Refused 9 where a read or the write fails, and 11 where memory is refused. After any refusal
+    /// the connection is to be closed.
     pub fn serve_next<H: Wait, D: Disk, G: Pause>(
         &mut self,
         rt: &H,
@@ -87,8 +97,13 @@ impl<R: Read, W: Write> ServerConnection<R, W> {
         };
         let kind = request.kind();
         pause.at(Point::Before(kind));
-        let reply = answer(rt, alloc, shared, pass, &mut self.agent, request);
+        let begun = self.begun;
+        let answered = answer(rt, alloc, shared, pass, &mut self.agent, begun, request);
         pause.at(Point::After(kind));
+        let Some(reply) = answered else {
+            return Err(ServeError::BegunElsewhere);
+        };
+        self.begun = begun_by(begun, &reply);
         self.send(alloc, &reply)?;
         Ok(Exchanged::Answered)
     }
@@ -155,5 +170,21 @@ impl<R: Read, W: Write> ServerConnection<R, W> {
     {
         let body = encode_any_reply(alloc, reply)?;
         Ok(self.connection.send(&body)?)
+    }
+}
+
+/// The session that was begun over a connection last, after this reply.
+fn begun_by(begun: Option<u64>, reply: &AnyReply) -> Option<u64>
+    ensures { result ≡ begun_after begun (response_of reply.now) }
+{
+    match reply {
+        AnyReply::Session(
+            ReplyMessage {
+                session,
+                reply: Reply::Begun { .. },
+                ..
+            },
+        ) => Some(*session),
+        _ => begun,
     }
 }

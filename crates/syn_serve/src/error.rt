@@ -24,6 +24,8 @@ pub enum ServeError {
     TooLarge,
     /// 23: a body came that is no message.
     BadMessage,
+    /// 14: the session whose begin came was begun before, and not over this connection.
+    BegunElsewhere,
 }
 
 impl ServeError {
@@ -37,6 +39,7 @@ impl ServeError {
             ServeError::BadFrame => Refusal::BadFrame,
             ServeError::TooLarge => Refusal::TooLarge,
             ServeError::BadMessage => Refusal::BadMessage,
+            ServeError::BegunElsewhere => Refusal::OldSession,
         }
     }
 

@@ -6,14 +6,14 @@ use Rattle.std.specs.Prelude.{All}
 use Rattle.std.specs.List.{count_by}
 use Rattle.std.proofs.lemmas.List.Elements.{All-filter, Contains-push_cases}
 use Rattle.std.proofs.lemmas.List.Sums.{sum_by-append}
-use Rattle.syn_headline.specs.Coordinator.{AreRising, MayWait, Running, outstanding}
-use Rattle.syn_headline.specs.Coordinator.{asked_in, hearing, without}
-use Rattle.syn_headline.specs.Network.{Which, Left, Right, other, is_side}
-use Rattle.syn_headline.specs.Session.{Exchange, WasAsked}
-use Rattle.syn_headline.specs.Side.{Request}
-use Rattle.syn_headline.specs.Side as model
-use Rattle.syn_headline.proofs.WaitingLemmas.{asked_waits}
-use Rattle.syn_headline.proofs.Rising.{one_less, without-rising}
+use Rattle.syn_machine.specs.Coordinator.{AreRising, MayWait, Running, outstanding}
+use Rattle.syn_machine.specs.Coordinator.{asked_in, hearing, without}
+use Rattle.syn_machine.specs.Network.{Which, Left, Right, other, is_side}
+use Rattle.syn_machine.specs.Session.{Exchange, WasAsked}
+use Rattle.syn_machine.specs.Side.{Request}
+use Rattle.syn_machine.specs.Side as model
+use Rattle.syn_machine.proofs.WaitingLemmas.{asked_waits}
+use Rattle.syn_machine.proofs.Rising.{one_less, without-rising}
 use Rattle.syn_model.specs.Archive as archive
 use Rattle.syn_session.specs.declared.session.Session.{Session}
 use Rattle.syn_session.specs.Answering.{IsAnswering, IsHeard, exchange_of}

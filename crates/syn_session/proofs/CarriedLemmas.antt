@@ -3,12 +3,12 @@ use Rattle.std.proofs.Common.{◌≡◌, ◌⊎◌, ℕ, suc, List, [], ◌∷�
 use Rattle.std.proofs.Common.{ap, ◌∙◌, subst, inl, inr, arith}
 use Rattle.std.specs.Prelude.{unwrap_or}
 use Rattle.std.specs.List.{slice_get}
-use Rattle.syn_headline.specs.Coordinator.{Exchange, IsDue, IsFor, fault_of}
-use Rattle.syn_headline.specs.Coordinator as is_due_by
-use Rattle.syn_headline.specs.Network.{Which, other}
-use Rattle.syn_headline.specs.Planning.{Planned, WritesTo, seen_on}
-use Rattle.syn_headline.specs.Side.{Request, Begin, ListAt, Fetch, Stage, Replace}
-use Rattle.syn_headline.specs.Side as model
+use Rattle.syn_machine.specs.Coordinator.{Exchange, IsDue, IsFor, fault_of}
+use Rattle.syn_machine.specs.Coordinator as is_due_by
+use Rattle.syn_machine.specs.Network.{Which, other}
+use Rattle.syn_machine.specs.Planning.{Planned, WritesTo, seen_on}
+use Rattle.syn_machine.specs.Side.{Request, Begin, ListAt, Fetch, Stage, Replace}
+use Rattle.syn_machine.specs.Side as model
 use Rattle.syn_model.specs.Archive as kept_in
 use Rattle.syn_model.specs.Archive.{Kept, Recorded}
 use Rattle.syn_model.specs.Refusal.{Memory, Refusal as Why}

@@ -3,10 +3,10 @@ use Rattle.std.proofs.Common.{◌≡◌, ℕ, true, List, [], ◌∷◌, ◌++�
 use Rattle.std.proofs.Common.{◌∙◌, subst, inl, inr, suc}
 use Rattle.std.specs.Prelude.{slice_get, unwrap_or}
 use Rattle.std.proofs.lemmas.List.Elements.{Contains-push_cases}
-use Rattle.syn_headline.specs.Coordinator.{Exchange}
-use Rattle.syn_headline.specs.Network.{Left, Right, Which, other}
-use Rattle.syn_headline.specs.Planning.{Planned, WritesTo, seen_on}
-use Rattle.syn_headline.specs.Session.{record_for}
+use Rattle.syn_machine.specs.Coordinator.{Exchange}
+use Rattle.syn_machine.specs.Network.{Left, Right, Which, other}
+use Rattle.syn_machine.specs.Planning.{Planned, WritesTo, seen_on}
+use Rattle.syn_machine.specs.Session.{record_for}
 use Rattle.syn_model.specs.Archive as model
 use Rattle.syn_model.specs.Archive.{Kept, Recorded, kept_refusal}
 use Rattle.syn_model.specs.Decision.{ToLeft, ToRight, MarkSame, MarkDir, Conflict, Item}
@@ -18,7 +18,7 @@ use Rattle.syn_session.specs.declared.plan_progress.PlanProgress.{PlanProgress}
 use Rattle.syn_image.specs.Archives.{kept_for}
 use Rattle.syn_session.specs.Stages.{Carries, IsCarriageOf, IsCarriedFor, IsPlanProgress, Reached}
 use Rattle.syn_session.specs.Stages.{plan_in, AreAskedBefore, IsAskedBefore}
-use Rattle.syn_headline.specs.Report.{is_carrying}
+use Rattle.syn_machine.specs.Report.{is_carrying}
 use Rattle.syn_scan.specs.Found.{Found}
 use Rattle.syn_session.specs.Plans.{Plan}
 use Rattle.syn_propagate.specs.declared.transfer.Transfer.{Transfer}

@@ -2,10 +2,10 @@
 use Rattle.std.proofs.Common.{◌≡◌, ℕ, Option, Some, None, refl, sym, ap, ◌∙◌, subst, inl, inr}
 use Rattle.std.specs.Prelude.{option_map, slice_get, IfOk, Result, Ok, Err}
 use Rattle.std.proofs.lemmas.Option.{slice_get-map}
-use Rattle.syn_headline.specs.Coordinator.{IsDue, directory, same}
-use Rattle.syn_headline.specs.Planning.{Planned}
-use Rattle.syn_headline.specs.Report.{is_carrying}
-use Rattle.syn_headline.specs.Session.{record_for}
+use Rattle.syn_machine.specs.Coordinator.{IsDue, directory, same}
+use Rattle.syn_machine.specs.Planning.{Planned}
+use Rattle.syn_machine.specs.Report.{is_carrying}
+use Rattle.syn_machine.specs.Session.{record_for}
 use Rattle.syn_path.specs.declared.side.Side.TheVariants as side
 use Rattle.syn_model.specs.Archive.{Recorded}
 use Rattle.syn_model.specs.Decision.{ToLeft, ToRight, Conflict, path_of}

@@ -14,11 +14,11 @@ use Rattle.std.proofs.lemmas.List.Elements.{Contains-append_left, Contains-appen
 use Rattle.std.proofs.lemmas.List.Elements.{Contains-push_cases}
 use Rattle.std.proofs.lemmas.List.Folds.{list_any-append}
 use Rattle.std.proofs.lemmas.List.Sums.{sum_by-append}
-use Rattle.syn_headline.specs.Coordinator.{AreRising, Exchange, MayAsk, MayWait, Outstanding}
-use Rattle.syn_headline.specs.Coordinator.{Running, numbered}
-use Rattle.syn_headline.specs.Network.{IsRepeat, Left, Right, Which, is_side}
-use Rattle.syn_headline.specs.Session.{BothBegun, entries_in, is_not_dir}
-use Rattle.syn_headline.specs.Side.{Begin, Fetch, IsLawfulBody, ListAt, Replace, Request, Stage}
+use Rattle.syn_machine.specs.Coordinator.{AreRising, Exchange, MayAsk, MayWait, Outstanding}
+use Rattle.syn_machine.specs.Coordinator.{Running, numbered}
+use Rattle.syn_machine.specs.Network.{IsRepeat, Left, Right, Which, is_side}
+use Rattle.syn_machine.specs.Session.{BothBegun, entries_in, is_not_dir}
+use Rattle.syn_machine.specs.Side.{Begin, Fetch, IsLawfulBody, ListAt, Replace, Request, Stage}
 use Rattle.syn_model.specs.Path.{Path}
 use Rattle.syn_scan.specs.Asked.{AreAllOut, is_out}
 use Rattle.syn_scan.specs.Found.{Found, IsWhole, is_open}

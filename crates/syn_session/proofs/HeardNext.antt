@@ -1,11 +1,11 @@
 -- What is heard where an answer is refused, where a listing goes on, and of which request it is.
 use Rattle.std.proofs.Common.{◌≡◌, ◌⊎◌, ℕ, None, refl, sym, subst, inl, inr}
 use Rattle.std.specs.Prelude.{Contains, IfOk, IsErrAnd, MatchResult, Result, Ok, Err}
-use Rattle.syn_headline.specs.Coordinator.{Running, hearing}
-use Rattle.syn_headline.specs.Network.{Which}
-use Rattle.syn_headline.specs.Session.{BothBegun, fault_of}
-use Rattle.syn_headline.specs.Side.{Begin, Fetch, ListAt, Replace, Request, Stage}
-use Rattle.syn_headline.specs.Side as model
+use Rattle.syn_machine.specs.Coordinator.{Running, hearing}
+use Rattle.syn_machine.specs.Network.{Which}
+use Rattle.syn_machine.specs.Session.{BothBegun, fault_of}
+use Rattle.syn_machine.specs.Side.{Begin, Fetch, ListAt, Replace, Request, Stage}
+use Rattle.syn_machine.specs.Side as model
 use Rattle.syn_message.specs.Requests.{request_of}
 use Rattle.syn_message.specs.declared.request.Request.{Request as Asked}
 use Rattle.syn_message.specs.declared.request.Request.TheVariants as has

@@ -8,14 +8,14 @@ use Rattle.std.proofs.lemmas.List.{length-map}
 use Rattle.std.proofs.lemmas.List.Elements.{Contains-append_left, Contains-push}
 use Rattle.std.proofs.lemmas.List.Elements.{Contains-push_cases}
 use Rattle.std.proofs.lemmas.Option.{same_Some}
-use Rattle.syn_headline.specs.Coordinator.{AreRising, Exchange, MayWait, Outstanding, Running}
-use Rattle.syn_headline.specs.Coordinator.{asked_in, hearing, is_last, is_not_dir}
-use Rattle.syn_headline.specs.Coordinator.{numbered, without}
-use Rattle.syn_headline.specs.Network.{IsRepeat, Which, is_side, other}
-use Rattle.syn_headline.specs.Session.{BothBegun, WasAsked, WasTaken, entries_in, fault_of}
-use Rattle.syn_headline.specs.Side.{Begin, Begun, ListAt, Request}
-use Rattle.syn_headline.specs.Side as model
-use Rattle.syn_headline.proofs.WaitingLemmas.{asked_waits}
+use Rattle.syn_machine.specs.Coordinator.{AreRising, Exchange, MayWait, Outstanding, Running}
+use Rattle.syn_machine.specs.Coordinator.{asked_in, hearing, is_last, is_not_dir}
+use Rattle.syn_machine.specs.Coordinator.{numbered, without}
+use Rattle.syn_machine.specs.Network.{IsRepeat, Which, is_side, other}
+use Rattle.syn_machine.specs.Session.{BothBegun, WasAsked, WasTaken, entries_in, fault_of}
+use Rattle.syn_machine.specs.Side.{Begin, Begun, ListAt, Request}
+use Rattle.syn_machine.specs.Side as model
+use Rattle.syn_machine.proofs.WaitingLemmas.{asked_waits}
 use Rattle.syn_message.specs.Requests.{request_of}
 use Rattle.syn_message.specs.declared.request.Request.{Request as Asked}
 use Rattle.syn_message.specs.declared.request.Request.TheVariants as has
@@ -45,7 +45,7 @@ use Rattle.syn_session.proofs.TellingLemmas.{not_across, other_side, scans_furth
 use Rattle.syn_path.specs.Sides.{which_of}
 use Rattle.syn_path.specs.declared.side.Side.{Side}
 use Rattle.syn_model.proofs.BaseLemmas.{and_false, contains_none, contains_one, from_map}
-use Rattle.syn_headline.proofs.StagedLemmas.{on_both}
+use Rattle.syn_machine.proofs.NetworkLemmas.{on_both}
 
 not_true : (b : Bool) → not b ≡ true → b ≡ false
 not_true false e = refl

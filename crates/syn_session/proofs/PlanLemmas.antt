@@ -8,7 +8,7 @@ use Rattle.std.proofs.lemmas.Bool.{false≢true}
 use Rattle.std.proofs.lemmas.List.{get_or-map, length-map}
 use Rattle.std.proofs.lemmas.Option.{none-some, same_Some, slice_get-map, slice_get_within}
 use Rattle.std.proofs.lemmas.Option.{get_or_from_slice_get}
-use Rattle.syn_headline.specs.Planning.{Planned}
+use Rattle.syn_machine.specs.Planning.{Planned}
 use Rattle.syn_model.specs.Decision.{Item, Decision, Clean, Do, DoAndGoOn, GoOn, ToLeft, ToRight}
 use Rattle.syn_model.specs.Decision.{MarkSame, MarkDir, Conflict, path_of, decision, contested}
 use Rattle.syn_model.specs.Dirty.{Scan, dirty, is_same_tree, is_unstable}

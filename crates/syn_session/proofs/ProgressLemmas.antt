@@ -5,10 +5,10 @@ use Rattle.std.proofs.Common.{subst, arith, Option}
 use Rattle.std.specs.List.{slice_get}
 use Rattle.std.proofs.lemmas.List.{length-map, map_push}
 use Rattle.std.proofs.lemmas.Option.{none-some, slice_get_within}
-use Rattle.syn_headline.specs.Planning.{Planned}
-use Rattle.syn_headline.specs.Report.{conflict_at, is_carrying, is_marking, is_record_of}
+use Rattle.syn_machine.specs.Planning.{Planned}
+use Rattle.syn_machine.specs.Report.{conflict_at, is_carrying, is_marking, is_record_of}
 use Rattle.syn_model.specs.Archive.{Kept}
-use Rattle.syn_headline.specs.Session.{record_for}
+use Rattle.syn_machine.specs.Session.{record_for}
 use Rattle.syn_model.specs.Decision.{Item, ToLeft, ToRight, MarkSame, MarkDir, Conflict, path_of}
 use Rattle.syn_model.specs.Path.{Path}
 use Rattle.syn_model.specs.Plan.{PlanIsOrderly}

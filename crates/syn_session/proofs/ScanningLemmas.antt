@@ -19,12 +19,12 @@ use Rattle.std.proofs.lemmas.List.Folds.{Any-from_list_any, list_any-append}
 use Rattle.std.proofs.lemmas.Map.Views.{list_any-from_Contains}
 use Rattle.std.proofs.lemmas.List.Sums.{sum_by-append}
 use Rattle.std.proofs.lemmas.Option.{none-some, same_Some}
-use Rattle.syn_headline.specs.Network.{Which, Left, Right, is_side}
-use Rattle.syn_headline.specs.Session.{Exchange, WasTaken, IsShown, nodes_shown, entries_in}
-use Rattle.syn_headline.specs.Session.{fault_of, is_not_dir}
+use Rattle.syn_machine.specs.Network.{Which, Left, Right, is_side}
+use Rattle.syn_machine.specs.Session.{Exchange, WasTaken, IsShown, nodes_shown, entries_in}
+use Rattle.syn_machine.specs.Session.{fault_of, is_not_dir}
 use Rattle.syn_model.specs.Limits.{most_nodes}
-use Rattle.syn_headline.specs.Side.{ListAt, Listed, NotDir}
-use Rattle.syn_headline.specs.Side as model
+use Rattle.syn_machine.specs.Side.{ListAt, Listed, NotDir}
+use Rattle.syn_machine.specs.Side as model
 use Rattle.syn_message.specs.Listings.{AreRising}
 use Rattle.syn_model.specs.Path.{Path, Name, is_prefix, path_cmp, name_cmp, root}
 use Rattle.syn_model.proofs.BaseLemmas.{or_false}

@@ -7,12 +7,12 @@ use Rattle.std.specs.List.{count_by}
 use Rattle.std.proofs.lemmas.Bool.{false≢true}
 use Rattle.std.proofs.lemmas.List.{length-map}
 use Rattle.std.proofs.lemmas.List.Elements.{All-cons, All-map, All-nil, Contains-push_cases}
-use Rattle.syn_headline.specs.Coordinator.{AreRising, MayWait, Running, Outstanding, outstanding}
-use Rattle.syn_headline.specs.Coordinator.{asked_count, messages_to, once_more}
-use Rattle.syn_headline.specs.Network.{Which, Left, Right, other, is_side}
-use Rattle.syn_headline.specs.Session.{Exchange, WasAsked}
-use Rattle.syn_headline.specs.Side.{Request, Begin, ListAt}
-use Rattle.syn_headline.proofs.Rising.{may_wait_again, once_more-rising}
+use Rattle.syn_machine.specs.Coordinator.{AreRising, MayWait, Running, Outstanding, outstanding}
+use Rattle.syn_machine.specs.Coordinator.{asked_count, messages_to, once_more}
+use Rattle.syn_machine.specs.Network.{Which, Left, Right, other, is_side}
+use Rattle.syn_machine.specs.Session.{Exchange, WasAsked}
+use Rattle.syn_machine.specs.Side.{Request, Begin, ListAt}
+use Rattle.syn_machine.proofs.Rising.{may_wait_again, once_more-rising}
 use Rattle.syn_model.specs.Archive as model
 use Rattle.syn_scan.specs.Asked.{is_out}
 use Rattle.syn_session.specs.Scanning.{IsFoundIn, WaitsFor, found_of, out_of}

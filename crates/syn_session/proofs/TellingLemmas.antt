@@ -5,11 +5,11 @@ use Rattle.std.specs.List.{list_any}
 use Rattle.std.proofs.Math.Bool.{or-true}
 use Rattle.std.proofs.lemmas.Bool.{false≢true}
 use Rattle.std.proofs.lemmas.Option.{none-some}
-use Rattle.syn_headline.specs.Coordinator.{Exchange, Running, is_last, took_not_dir}
-use Rattle.syn_headline.specs.Network.{Left, Right, Which, is_side, other}
-use Rattle.syn_headline.specs.Session.{fault_of, is_not_dir}
-use Rattle.syn_headline.specs.Side.{Begin, Begun, Fetch, ListAt, Replace, Request, Stage}
-use Rattle.syn_headline.specs.Side as model
+use Rattle.syn_machine.specs.Coordinator.{Exchange, Running, is_last, took_not_dir}
+use Rattle.syn_machine.specs.Network.{Left, Right, Which, is_side, other}
+use Rattle.syn_machine.specs.Session.{fault_of, is_not_dir}
+use Rattle.syn_machine.specs.Side.{Begin, Begun, Fetch, ListAt, Replace, Request, Stage}
+use Rattle.syn_machine.specs.Side as model
 use Rattle.syn_model.specs.Path.{Path}
 use Rattle.syn_session.specs.declared.session.Session.{Session}
 use Rattle.syn_session.specs.Hearing.{HasHeard}

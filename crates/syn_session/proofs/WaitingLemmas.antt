@@ -15,14 +15,14 @@ use Rattle.std.proofs.lemmas.List.Elements.{All-contains, All-contains_itself, A
 use Rattle.std.proofs.lemmas.List.Elements.{All-append, All-map, filter_passes}
 use Rattle.std.proofs.lemmas.Map.Views.{list_any-from_Contains}
 use Rattle.std.proofs.lemmas.Option.{none-some}
-use Rattle.syn_headline.specs.Coordinator.{AreRising, IsListing, MayWait, Outstanding, asked_in}
-use Rattle.syn_headline.specs.Coordinator.{most_listings, most_resends, numbered, once_more}
-use Rattle.syn_headline.specs.Coordinator.{messages_to, without}
-use Rattle.syn_headline.specs.Network.{Asks, Which}
-use Rattle.syn_headline.specs.Side.{ListAt, Request}
-use Rattle.syn_headline.proofs.Heard.{number_within, numbered-length}
-use Rattle.syn_headline.proofs.WaitingLemmas.{asked_waits}
-use Rattle.syn_headline.proofs.Rising.{all_stay, later_above, later_rise}
+use Rattle.syn_machine.specs.Coordinator.{AreRising, IsListing, MayWait, Outstanding, asked_in}
+use Rattle.syn_machine.specs.Coordinator.{most_listings, most_resends, numbered, once_more}
+use Rattle.syn_machine.specs.Coordinator.{messages_to, without}
+use Rattle.syn_machine.specs.Network.{Asks, Which}
+use Rattle.syn_machine.specs.Side.{ListAt, Request}
+use Rattle.syn_machine.proofs.Heard.{number_within, numbered-length}
+use Rattle.syn_machine.proofs.WaitingLemmas.{asked_waits}
+use Rattle.syn_machine.proofs.Rising.{all_stay, later_above, later_rise}
 use Rattle.syn_message.specs.Requests.{request_of}
 use Rattle.syn_model.specs.Path.{Path, path_cmp}
 use Rattle.syn_model.proofs.PathLemmas.{path_total, path_itself, same_path}

@@ -1,10 +1,10 @@
 -- A session whose answer has come, and what it asks next.
 use Rattle.std.specs.Prelude.{◌≡◌, ◌⊎◌, ◌≤◌, ◌<◌, ◌^◌, ◌+◌, ℕ, length, List, [], ◌∷◌, ◌++◌, map}
 use Rattle.std.specs.Prelude.{Some, option_map}
-use Rattle.syn_headline.specs.Coordinator.{AsksOnce, Exchange, Running, asked_in, messages_to}
-use Rattle.syn_headline.specs.Coordinator.{numbered}
-use Rattle.syn_headline.specs.Network.{Message, Which, Left, Right, other}
-use Rattle.syn_headline.specs.Side.{ListAt, Reply, Request}
+use Rattle.syn_machine.specs.Coordinator.{AsksOnce, Exchange, Running, asked_in, messages_to}
+use Rattle.syn_machine.specs.Coordinator.{numbered}
+use Rattle.syn_machine.specs.Network.{Message, Which, Left, Right, other}
+use Rattle.syn_machine.specs.Side.{ListAt, Reply, Request}
 use Rattle.syn_message.specs.Requests.{request_of}
 use Rattle.syn_path.specs.declared.side.Side.{Side}
 use Rattle.syn_path.specs.declared.side.Side.TheVariants as to

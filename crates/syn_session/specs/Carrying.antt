@@ -1,8 +1,8 @@
 -- An item that is carried, and one that is so no more.
 use Rattle.std.specs.Prelude.{◌≡◌, suc, true, List, None, Some, slice_get}
-use Rattle.syn_headline.specs.Coordinator.{Exchange}
-use Rattle.syn_headline.specs.Planning.{Planned}
-use Rattle.syn_headline.specs.Report.{conflict_at, is_carrying}
+use Rattle.syn_machine.specs.Coordinator.{Exchange}
+use Rattle.syn_machine.specs.Planning.{Planned}
+use Rattle.syn_machine.specs.Report.{conflict_at, is_carrying}
 use Rattle.syn_message.specs.Requests.{request_of}
 use Rattle.syn_path.specs.Sides.{which_of}
 use Rattle.syn_propagate.specs.Transfers.{Asks as TransferAsks}

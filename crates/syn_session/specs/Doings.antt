@@ -1,9 +1,9 @@
 -- What is to be done for an item of the plan.
 use Rattle.std.specs.Prelude.{◌≡◌, false, Some, None, slice_get}
-use Rattle.syn_headline.specs.Coordinator.{Exchange, IsDue}
-use Rattle.syn_headline.specs.Planning.{Planned}
-use Rattle.syn_headline.specs.Report.{is_carrying}
-use Rattle.syn_headline.specs.Session.{record_for}
+use Rattle.syn_machine.specs.Coordinator.{Exchange, IsDue}
+use Rattle.syn_machine.specs.Planning.{Planned}
+use Rattle.syn_machine.specs.Report.{is_carrying}
+use Rattle.syn_machine.specs.Session.{record_for}
 use Rattle.syn_model.specs.Decision.{Conflict}
 use Rattle.syn_propagate.specs.Transfers.{IsReady, spec_of}
 use Rattle.syn_scan.specs.Found.{Found}

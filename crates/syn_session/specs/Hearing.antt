@@ -1,10 +1,10 @@
 -- What a session that scans comes to with an answer.
 use Rattle.std.specs.Prelude.{◌≡◌, ◌⊎◌, ◌≤◌, ◌+◌, ◌++◌, ℕ, length, [], Some, None, Contains}
 use Rattle.std.specs.Prelude.{AllPairs, Result, Ok, Err}
-use Rattle.syn_headline.specs.Coordinator.{Exchange, MayWait, Running, hearing, numbered}
-use Rattle.syn_headline.specs.Network.{Which, IsRepeat}
-use Rattle.syn_headline.specs.Session.{BothBegun, MayAsk, WasAsked, fault_of}
-use Rattle.syn_headline.specs.Side.{IsLawfulBody, Reply, Request}
+use Rattle.syn_machine.specs.Coordinator.{Exchange, MayWait, Running, hearing, numbered}
+use Rattle.syn_machine.specs.Network.{Which, IsRepeat}
+use Rattle.syn_machine.specs.Session.{BothBegun, MayAsk, WasAsked, fault_of}
+use Rattle.syn_machine.specs.Side.{IsLawfulBody, Reply, Request}
 use Rattle.syn_model.specs.Archive as model
 use Rattle.syn_model.specs.Refusal.{Memory}
 use Rattle.syn_refusal.specs.Refusals.{cause_of}

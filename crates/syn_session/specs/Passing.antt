@@ -1,6 +1,6 @@
 -- How far a session has come with a new plan, and after an item.
 use Rattle.std.specs.Prelude.{[], ◌++◌, Some, suc, ◌∷◌}
-use Rattle.syn_headline.specs.Planning.{Planned}
+use Rattle.syn_machine.specs.Planning.{Planned}
 use Rattle.syn_model.specs.Archive.{Kept}
 use Rattle.syn_model.specs.Decision.{path_of}
 use Rattle.syn_model.specs.Refusal.{Refusal as Why}

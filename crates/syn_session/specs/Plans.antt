@@ -1,8 +1,8 @@
 -- The plan of a session, and what is recorded for its items.
 use Rattle.std.specs.List.{count_by}
 use Rattle.std.specs.Prelude.{◌≡◌, ◌<◌, ℕ, Bool, true, ◌&&◌, List, map, slice_get, Some, All}
-use Rattle.syn_headline.specs.Planning.{Planned, Seen}
-use Rattle.syn_headline.specs.Report.{is_kept, is_record_of}
+use Rattle.syn_machine.specs.Planning.{Planned, Seen}
+use Rattle.syn_machine.specs.Report.{is_kept, is_record_of}
 use Rattle.syn_model.specs.Archive.{Kept}
 use Rattle.syn_model.specs.Decision.{path_of}
 use Rattle.syn_model.specs.Decision as model

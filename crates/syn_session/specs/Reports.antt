@@ -1,6 +1,6 @@
 -- What a session reports, as the model has it.
 use Rattle.std.specs.Prelude.{map, option_map}
-use Rattle.syn_headline.specs.Report as model
+use Rattle.syn_machine.specs.Report as model
 use Rattle.syn_refusal.specs.Refusals.{cause_of}
 use Rattle.syn_session.specs.declared.report.End.{End}
 use Rattle.syn_session.specs.declared.report.End.TheVariants.{Complete, Incomplete}

@@ -2,10 +2,10 @@
 use Rattle.std.specs.Prelude.{◌≡◌, ◌⊎◌, ◌++◌, ◌&&◌, ℕ, Bool, true, List, [], ◌∷◌, Contains}
 use Rattle.std.specs.FinMap.{len}
 use Rattle.std.specs.List.{list_any}
-use Rattle.syn_headline.specs.Network.{Which, is_side}
-use Rattle.syn_headline.specs.Session.{Exchange, WasTaken, is_not_dir, nodes_shown}
-use Rattle.syn_headline.specs.Side.{ListAt, Listed, NotDir}
-use Rattle.syn_headline.specs.Side as model
+use Rattle.syn_machine.specs.Network.{Which, is_side}
+use Rattle.syn_machine.specs.Session.{Exchange, WasTaken, is_not_dir, nodes_shown}
+use Rattle.syn_machine.specs.Side.{ListAt, Listed, NotDir}
+use Rattle.syn_machine.specs.Side as model
 use Rattle.syn_model.specs.Dirty.{has_unstable}
 use Rattle.syn_model.specs.Path.{Path, Name, root}
 use Rattle.syn_model.specs.Tree.{Content}

@@ -1,6 +1,6 @@
 -- What a coordinator sends, as the model has it.
 use Rattle.std.specs.Prelude.{List, map}
-use Rattle.syn_headline.specs.Network.{Message, Asks, Which}
+use Rattle.syn_machine.specs.Network.{Message, Asks, Which}
 use Rattle.syn_message.specs.Requests.{request_of}
 use Rattle.syn_message.specs.declared.request.RequestMessage.{RequestMessage}
 use Rattle.syn_path.specs.Sides.{which_of}

@@ -2,13 +2,13 @@
 use Rattle.std.specs.List.{list_any}
 use Rattle.std.specs.Prelude.{◌≡◌, ◌<◌, ◌≤◌, ◌^◌, ℕ, suc, Bool, nat_le, List, [], ◌∷◌, ◌++◌, nat_lt}
 use Rattle.std.specs.Prelude.{All, is_some, not, ◌&&◌, ◌||◌, if◌then◌else◌, Option, Some, None}
-use Rattle.syn_headline.specs.Coordinator.{Outstanding, Running, begins, asking, new_session}
-use Rattle.syn_headline.specs.Coordinator.{messages_to, once_more, outstanding, asked_count}
-use Rattle.syn_headline.specs.Coordinator.{AreRising, AsksOnce, Exchange, MayWait}
-use Rattle.syn_headline.specs.Coordinator.{most_resends}
-use Rattle.syn_headline.specs.Network.{Which, Left, Right, Message}
-use Rattle.syn_headline.specs.Report.{End, Complete, Incomplete}
-use Rattle.syn_headline.specs.Side.{Request, Begin}
+use Rattle.syn_machine.specs.Coordinator.{Outstanding, Running, begins, asking, new_session}
+use Rattle.syn_machine.specs.Coordinator.{messages_to, once_more, outstanding, asked_count}
+use Rattle.syn_machine.specs.Coordinator.{AreRising, AsksOnce, Exchange, MayWait}
+use Rattle.syn_machine.specs.Coordinator.{most_resends}
+use Rattle.syn_machine.specs.Network.{Which, Left, Right, Message}
+use Rattle.syn_machine.specs.Report.{End, Complete, Incomplete}
+use Rattle.syn_machine.specs.Side.{Request, Begin}
 use Rattle.syn_model.specs.Archive as model
 use Rattle.syn_model.specs.Refusal.{Refusal}
 use Rattle.syn_scan.specs.Found.{Found}

@@ -1,6 +1,6 @@
 -- What became of the items of a session, and what a report of the model has of it.
 use Rattle.std.specs.Prelude.{ℕ, List, [], map}
-use Rattle.syn_headline.specs.Report.{Report}
+use Rattle.syn_machine.specs.Report.{Report}
 use Rattle.syn_model.specs.Path.{Path}
 use Rattle.syn_model.specs.Refusal.{Refusal}
 use Rattle.syn_refusal.specs.Refusals.{cause_of}

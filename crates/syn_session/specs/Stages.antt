@@ -1,12 +1,12 @@
 -- What a session that runs is at: it scans both sides, or it carries out its plan.
 use Rattle.std.specs.Prelude.{◌≡◌, ◌<◌, ◌^◌, ◌⊎◌, ℕ, suc, List, [], ◌∷◌, map, filter_map}
 use Rattle.std.specs.Prelude.{length, take, slice_get, Option, Some, None, All, Contains}
-use Rattle.syn_headline.specs.Coordinator.{AreRising, Outstanding, Running, without}
-use Rattle.syn_headline.specs.Network.{Which, Left, Right, other}
-use Rattle.syn_headline.specs.Planning.{Planned, WritesTo, seen_on}
-use Rattle.syn_headline.specs.Report.{conflict_at, is_carrying, is_marking}
-use Rattle.syn_headline.specs.Session.{BothBegun, Exchange, WasTaken, record_for}
-use Rattle.syn_headline.specs.Side.{Request, Begin, ListAt, Fetch, Stage, Replace, Begun}
+use Rattle.syn_machine.specs.Coordinator.{AreRising, Outstanding, Running, without}
+use Rattle.syn_machine.specs.Network.{Which, Left, Right, other}
+use Rattle.syn_machine.specs.Planning.{Planned, WritesTo, seen_on}
+use Rattle.syn_machine.specs.Report.{conflict_at, is_carrying, is_marking}
+use Rattle.syn_machine.specs.Session.{BothBegun, Exchange, WasTaken, record_for}
+use Rattle.syn_machine.specs.Side.{Request, Begin, ListAt, Fetch, Stage, Replace, Begun}
 use Rattle.syn_message.specs.Requests.{request_of}
 use Rattle.syn_model.specs.Archive.{Kept, kept_refusal}
 use Rattle.syn_model.specs.Archive as model

@@ -1,10 +1,10 @@
 //! What a session that scans comes to with an answer.
 ghost use Rattle.std.specs.Prelude.{◌≡◌, ℕ, None, Some, IfOk, MatchResult};
 ghost use Rattle.std.specs.Prelude.{◌&&◌};
-ghost use Rattle.syn_headline.specs.Coordinator.{Running};
-ghost use Rattle.syn_headline.specs.Network.{Which};
-ghost use Rattle.syn_headline.specs.Session.{fault_of};
-ghost use Rattle.syn_headline.specs.Side.{Begin, Begun, ListAt};
+ghost use Rattle.syn_machine.specs.Coordinator.{Running};
+ghost use Rattle.syn_machine.specs.Network.{Which};
+ghost use Rattle.syn_machine.specs.Session.{fault_of};
+ghost use Rattle.syn_machine.specs.Side.{Begin, Begun, ListAt};
 ghost use Rattle.syn_message.specs.Replies.{IsLawfulReply, reply_of};
 ghost use Rattle.syn_message.specs.Requests.{request_of};
 ghost use Rattle.syn_path.specs.Sides.{which_of};

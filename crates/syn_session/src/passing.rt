@@ -1,9 +1,9 @@
 //! How a session goes past the items of its plan.
 ghost use Rattle.std.specs.Prelude.{◌≡◌, ◌+◌, ◌<◌, ◌^◌, Some, OnErr, OnOk, false, slice_get};
 ghost use Rattle.std.specs.Prelude.{IsOk, true};
-ghost use Rattle.syn_headline.specs.Planning.{Planned};
-ghost use Rattle.syn_headline.specs.Report.{conflict_at, is_carrying};
-ghost use Rattle.syn_headline.specs.Session.{record_for};
+ghost use Rattle.syn_machine.specs.Planning.{Planned};
+ghost use Rattle.syn_machine.specs.Report.{conflict_at, is_carrying};
+ghost use Rattle.syn_machine.specs.Session.{record_for};
 ghost use Rattle.syn_model.specs.Archive.{Kept};
 ghost use Rattle.syn_model.specs.Decision.{Conflict, path_of};
 ghost use Rattle.syn_recon.specs.Items.{item_of};

@@ -1,9 +1,9 @@
 //! What a session asks of one side.
 ghost use Rattle.std.specs.Prelude.{◌≡◌, ◌+◌, [], ◌∷◌, ◌++◌, None, false, nat_lt, option_map};
 ghost use Rattle.std.specs.Prelude.{ℕ, length, map, IfOk, IfSome, OnOk};
-ghost use Rattle.syn_headline.specs.Coordinator.{asked_in, messages_to, numbered, once_more};
-ghost use Rattle.syn_headline.specs.Network.{Which};
-ghost use Rattle.syn_headline.specs.Side.{ListAt};
+ghost use Rattle.syn_machine.specs.Coordinator.{asked_in, messages_to, numbered, once_more};
+ghost use Rattle.syn_machine.specs.Network.{Which};
+ghost use Rattle.syn_machine.specs.Side.{ListAt};
 ghost use Rattle.syn_message.specs.Requests.{request_of};
 ghost use Rattle.syn_path.specs.Sides.{which_of};
 ghost use Rattle.syn_session.specs.Scanning.{IsFoundIn, found_of, out_of};

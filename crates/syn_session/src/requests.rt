@@ -1,7 +1,7 @@
 //! The requests that wait for their answers.
 ghost use Rattle.std.specs.Prelude.{◌≡◌, ◌==◌, false, map, nat_le, position, IfOk};
 ghost use Rattle.std.specs.List.{list_any};
-ghost use Rattle.syn_headline.specs.Coordinator.{most_resends};
+ghost use Rattle.syn_machine.specs.Coordinator.{most_resends};
 ghost use Rattle.syn_message.specs.Requests.{request_of};
 ghost use Rattle.syn_path.specs.Sides.{which_of};
 ghost use Rattle.syn_session.specs.Sessions.{sent_again};

@@ -2,11 +2,11 @@
 ghost use Rattle.std.specs.Prelude.{◌≡◌, ◌<◌, ◌^◌, ◌⊎◌, ◌++◌, ◌∷◌, [], ℕ, None, Some, false};
 ghost use Rattle.std.specs.Prelude.{IfOk, IfSome, MatchResult, OnErr, OnOk, length, map, nat_lt};
 ghost use Rattle.std.specs.Prelude.{option_map};
-ghost use Rattle.syn_headline.specs.Coordinator.{Running, asked_in, messages_to, numbered};
-ghost use Rattle.syn_headline.specs.Coordinator.{report_of, took_not_dir};
-ghost use Rattle.syn_headline.specs.Network.{Left, Right, other};
-ghost use Rattle.syn_headline.specs.Session.{fault_of};
-ghost use Rattle.syn_headline.specs.Side.{ListAt};
+ghost use Rattle.syn_machine.specs.Coordinator.{Running, asked_in, messages_to, numbered};
+ghost use Rattle.syn_machine.specs.Coordinator.{report_of, took_not_dir};
+ghost use Rattle.syn_machine.specs.Network.{Left, Right, other};
+ghost use Rattle.syn_machine.specs.Session.{fault_of};
+ghost use Rattle.syn_machine.specs.Side.{ListAt};
 ghost use Rattle.syn_message.specs.Replies.{IsLawfulReply, reply_of};
 ghost use Rattle.syn_message.specs.Requests.{request_of};
 ghost use Rattle.syn_path.specs.Sides.{which_of};

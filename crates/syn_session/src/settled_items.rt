@@ -1,6 +1,6 @@
 //! What became so far of the items of a session.
 ghost use Rattle.std.specs.Prelude.{◌≡◌, None, length, option_map};
-ghost use Rattle.syn_headline.specs.Coordinator.{Running, report_of};
+ghost use Rattle.syn_machine.specs.Coordinator.{Running, report_of};
 ghost use Rattle.syn_session.specs.Reports.{report_model};
 ghost use Rattle.syn_session.specs.Sessions.{Tells};
 ghost use Rattle.syn_session.specs.SettledItems.{nothing_settled, settled_by, settled_in};

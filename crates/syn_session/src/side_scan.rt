@@ -2,9 +2,9 @@
 ghost use Rattle.std.specs.Prelude.{◌≡◌, ◌⊎◌, ℕ, [], IfOk, IfSome, IfNone, MatchResult};
 ghost use Rattle.std.specs.Prelude.{None, OnErr, OnOk, Some};
 ghost use Rattle.syn_scan.specs.Asked.{AreAllOut, handed_out, without};
-ghost use Rattle.syn_headline.specs.Network.{Which};
-ghost use Rattle.syn_headline.specs.Session.{IsShown, fault_of};
-ghost use Rattle.syn_headline.specs.Side.{ListAt};
+ghost use Rattle.syn_machine.specs.Network.{Which};
+ghost use Rattle.syn_machine.specs.Session.{IsShown, fault_of};
+ghost use Rattle.syn_machine.specs.Side.{ListAt};
 ghost use Rattle.syn_message.specs.Replies.{IsLawfulReply, reply_of};
 ghost use Rattle.syn_model.specs.Refusal.{Memory};
 ghost use Rattle.syn_refusal.specs.Refusals.{cause_of};

@@ -1,7 +1,7 @@
 -- Which refusals a history causes, and which cause the world names first.
 use Rattle.std.proofs.Common.{◌≡◌, ◌≢◌, ◌-◌, ℕ, [], ◌∷◌, ◌++◌, List, length}
 use Rattle.std.proofs.Common.{refl, sym, ap, true, false, None, Some}
-use Rattle.syn_headline.specs.SideMachine.{SideMachine, causes_of}
+use Rattle.syn_machine.specs.SideMachine.{SideMachine, causes_of}
 use Rattle.syn_model.specs.Event.{Event, Token, Replaced}
 use Rattle.syn_model.specs.History.{History, event_causes, position_causes, is_old_token, tree_of}
 use Rattle.syn_model.specs.Path.{Path}

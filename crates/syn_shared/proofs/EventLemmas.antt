@@ -7,9 +7,9 @@ use Rattle.std.specs.Result.{MatchResult}
 use Rattle.syn_agent.specs.Machines.{IsOf, goes_on, stops}
 use Rattle.syn_agent.specs.declared.agent.Agent.{Agent}
 use Rattle.syn_disk.specs.declared.disk.Disk.{Ghosts}
-use Rattle.syn_headline.specs.Machine.{Up, Halted, Down, unarmed, unwritten, with_record}
-use Rattle.syn_headline.specs.Machine as model
-use Rattle.syn_headline.specs.SideMachine.{SideMachine, side_layout}
+use Rattle.syn_machine.specs.Machine.{Up, Halted, Down, unarmed, unwritten, with_record}
+use Rattle.syn_machine.specs.Machine as model
+use Rattle.syn_machine.specs.SideMachine.{SideMachine, side_layout}
 use Rattle.syn_journal.specs.Endings.{ended}
 use Rattle.syn_journal.specs.Machines.{writing}
 use Rattle.syn_model.specs.Event.{Event}

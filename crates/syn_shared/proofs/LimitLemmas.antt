@@ -1,6 +1,6 @@
 -- A file of a tree within its limits is within the limit of a file.
 use Rattle.std.proofs.Common.{◌≡◌, ◌∙◌, ◌&&◌, Bool, true, false, List, [], ◌∷◌, Some, Result, Ok}
-use Rattle.std.proofs.Common.{Err, Less, Equal, Greater, ap₂, cond, is_eq, nat_le, refl, sym}
+use Rattle.std.proofs.Common.{Err, ap₂, cond, nat_le, refl, sym}
 use Rattle.std.proofs.Common.{length}
 use Rattle.std.proofs.lemmas.Bool.{and_parts}
 use Rattle.std.proofs.lemmas.Option.{none-some, same_Some}
@@ -9,7 +9,6 @@ use Rattle.std.specs.FinMap.{nat_cmp-IsAntisymmetric, slice_cmp-IsAntisymmetric}
 use Rattle.std.specs.List.{list_all}
 use Rattle.std.specs.Ordering.{eq_by_cmp}
 use Rattle.std.specs.Prelude.{IfOk}
-use Rattle.std.specs.declared.cmp.Ordering.{Ordering}
 use Rattle.syn_model.specs.Limits.{children, fits_content, fits_part, fits_paths, fits_replica}
 use Rattle.syn_model.specs.Limits.{greatest_spelling, tree_spelling_length}
 use Rattle.syn_model.specs.Path.{Path, path_cmp}

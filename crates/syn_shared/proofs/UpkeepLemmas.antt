@@ -5,10 +5,10 @@ use Rattle.syn_agent.specs.Agents.{staging_of}
 use Rattle.syn_agent.specs.Machines.{IsOf, goes_on, stops}
 use Rattle.syn_agent.specs.declared.agent.Agent.{Agent}
 use Rattle.syn_disk.specs.declared.disk.Disk.{Ghosts}
-use Rattle.syn_headline.specs.Machine.{Status, Up, Halted, Down, after_device, compacted}
-use Rattle.syn_headline.specs.Machine.{not_compacted, unarmed, with_image}
-use Rattle.syn_headline.specs.MachineSteps.{full_generation}
-use Rattle.syn_headline.specs.SideMachine.{SideMachine, side_layout, staging_after, with_journal}
+use Rattle.syn_machine.specs.Machine.{Status, Up, Halted, Down, after_device, compacted}
+use Rattle.syn_machine.specs.Machine.{not_compacted, unarmed, with_image}
+use Rattle.syn_machine.specs.MachineSteps.{full_generation}
+use Rattle.syn_machine.specs.SideMachine.{SideMachine, side_layout, staging_after, with_journal}
 use Rattle.syn_journal.specs.Endings.{ended}
 use Rattle.syn_journal.specs.Machines.{compacting}
 use Rattle.syn_model.specs.Refusal.{Refusal}

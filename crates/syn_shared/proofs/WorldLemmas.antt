@@ -9,9 +9,9 @@ use Rattle.syn_agent.specs.Machines.{IsOf}
 use Rattle.syn_agent.specs.declared.agent.Agent.{Agent}
 use Rattle.syn_journal.specs.Endings.{ended}
 use Rattle.syn_disk.specs.declared.disk.Disk.{Ghosts}
-use Rattle.syn_headline.specs.Machine.{Status, Up, Halted, Down}
-use Rattle.syn_headline.specs.SideMachine.{SideMachine, causes_of}
-use Rattle.syn_headline.specs.MachineSteps.{is_halted}
+use Rattle.syn_machine.specs.Machine.{Status, Up, Halted, Down}
+use Rattle.syn_machine.specs.SideMachine.{SideMachine, causes_of}
+use Rattle.syn_machine.specs.MachineSteps.{is_halted}
 use Rattle.syn_journal.specs.declared.error.JournalError.TheVariants as journal_error
 use Rattle.syn_model.specs.Event.{Edit, Event, Edited, Replaced, Token}
 use Rattle.syn_model.specs.History.{History, standing_of}

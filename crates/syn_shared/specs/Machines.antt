@@ -4,10 +4,10 @@ use Rattle.std.specs.Prelude.{None, Some, Result, Ok, Err, IsErrAnd}
 use Rattle.syn_agent.specs.Machines.{IsOf, IsLeftAs}
 use Rattle.syn_agent.specs.declared.agent.Agent.{Agent}
 use Rattle.syn_disk.specs.declared.disk.Disk.{Ghosts}
-use Rattle.syn_headline.specs.Machine.{Status, Up, Halted, Down, Arms, Journaled, Meets, Writes}
-use Rattle.syn_headline.specs.Machine.{Compacts, Opens, after_device}
-use Rattle.syn_headline.specs.SideMachine.{SideMachine, side_layout, with_journal, causes_of}
-use Rattle.syn_headline.specs.MachineSteps.{is_halted, full_generation}
+use Rattle.syn_machine.specs.Machine.{Status, Up, Halted, Down, Arms, Journaled, Meets, Writes}
+use Rattle.syn_machine.specs.Machine.{Compacts, Opens, after_device}
+use Rattle.syn_machine.specs.SideMachine.{SideMachine, side_layout, with_journal, causes_of}
+use Rattle.syn_machine.specs.MachineSteps.{is_halted, full_generation}
 use Rattle.syn_model.specs.Event.{Event}
 use Rattle.syn_model.specs.History.{History, IsAllowed}
 use Rattle.syn_model.specs.Refusal.{Device, Memory, Cause, first_cause}

@@ -1,8 +1,11 @@
 -- What the calls of one thread read from the replica found, which they leave as it is.
-use Rattle.std.specs.Prelude.{◌≡◌, ◌↔◌, Bool, true, false, Some, None, Result, Err, IfOk, IfErr}
+use Rattle.std.specs.Prelude.{◌≡◌, ◌↔◌, ℕ, Bool, true, false, Some, None, Result, Err, IfOk, IfErr}
 use Rattle.std.specs.FinMap.{get}
 use Rattle.std.specs.Global.{Vec}
 use Rattle.syn_disk.specs.declared.disk.Disk.{Ghosts}
+use Rattle.syn_history.specs.Past.{past_in}
+use Rattle.syn_history.specs.Status.{IsLawfulStatus, status_at, status_of}
+use Rattle.syn_history.specs.declared.status.ReplicaStatus.{ReplicaStatus}
 use Rattle.syn_journal.specs.declared.error.JournalError.TheVariants.{Halted}
 use Rattle.syn_mark.specs.Marks.{contents_in}
 use Rattle.syn_model.specs.Limits.{children, fits_content}
@@ -10,9 +13,10 @@ use Rattle.syn_model.specs.Mark.{mark}
 use Rattle.syn_model.specs.Path.{Name, Path}
 use Rattle.syn_model.specs.Tree.{Content, Tree as Pairs, is_directory}
 use Rattle.syn_replica.specs.Refusals.{IsOneOf, reading_refusals}
-use Rattle.syn_replica.specs.Replica.{IsHalted, tree_shown, position_shown}
+use Rattle.syn_replica.specs.Replica.{IsHalted, pair_of, standing_shown, tree_shown}
+use Rattle.syn_replica.specs.Replica.{position_shown}
 use Rattle.syn_replica.specs.declared.error.ReplicaError.{ReplicaError}
-use Rattle.syn_replica.specs.declared.error.ReplicaError.TheVariants.{Journal, Tree}
+use Rattle.syn_replica.specs.declared.error.ReplicaError.TheVariants.{Journal, Memory, Tree}
 use Rattle.syn_replica.specs.declared.replica.Replica.{Replica}
 use Rattle.syn_replica.specs.declared.replica.listing.Listing.{Listing}
 use Rattle.syn_tree.specs.Contents.{content_of}
@@ -58,3 +62,14 @@ module _ {D : Type 0} {disk : Ghosts D} (path : Path) where
         ↔ (¬ IsHalted found × (is_directory (tree_shown found) path ≡ false))
     pub halted : (answer ≡ Err (Journal Halted)) ↔ IsHalted found
     pub refusals : IfErr answer (IsOneOf reading_refusals)
+
+module _ {D : Type 0} {disk : Ghosts D} (place : ℕ) where
+  -- where it is in its history, with the path that the event at the place touched
+  pub record Tells (answer : Result ReplicaStatus ReplicaError) (found left : Replica D disk)
+      : Type 0 where
+    pub same : left ≡ found
+    pub told : IfOk answer (λ told. status_of told
+        ≡ status_at (pair_of found) told.halted (past_in (standing_shown found)) place)
+    pub halted : IfOk answer (λ told. (told.halted ≡ true) ↔ IsHalted found)
+    pub lawful : IfOk answer (λ told. IsLawfulStatus (status_of told))
+    pub refusals : IfErr answer (λ e. e ≡ Memory)

@@ -5,7 +5,7 @@ use Rattle.syn_agent.specs.Machines.{IsOf}
 use Rattle.syn_agent.specs.declared.agent.Agent.{Agent}
 use Rattle.syn_disk.specs.Stops.{LeavesOnly}
 use Rattle.syn_disk.specs.declared.disk.Disk.{Ghosts}
-use Rattle.syn_headline.specs.SideMachine.{SideMachine}
+use Rattle.syn_machine.specs.SideMachine.{SideMachine}
 use Rattle.syn_journal.specs.Endings.{ended}
 use Rattle.syn_model.specs.Event.{Token, Replaced}
 use Rattle.syn_model.specs.History.{History}

@@ -1,6 +1,7 @@
 -- What a call on a shared replica does within its hold of the lock.
-use Rattle.std.specs.Prelude.{◌≡◌, ℕ}
+use Rattle.std.specs.Prelude.{◌≡◌, ℕ, Option}
 use Rattle.syn_disk.specs.declared.disk.Disk.{Ghosts}
+use Rattle.syn_history.specs.declared.status.Identity.{Identity}
 use Rattle.syn_lock.specs.History.{end_of}
 use Rattle.syn_lock.specs.Locks.{id_of, origin_of}
 use Rattle.syn_lock.specs.Passes.{view_of, IsPassOf}
@@ -15,6 +16,10 @@ module _ {D : Type 0} {disk : Ghosts D} where
   -- the lock that the replica lies under
   abbrev pub own_of : SharedReplica D disk → Own (Replica D disk)
   own_of shared = shared.own
+
+  -- what its disk is known by
+  abbrev pub identity_of : SharedReplica D disk → Option Identity
+  identity_of shared = shared.identity
 
   -- the pass is of that lock, and has not entered it
   abbrev pub IsFor : SharedReplica D disk → Pass (Replica D disk) → Type 0

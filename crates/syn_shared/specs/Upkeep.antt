@@ -5,7 +5,7 @@ use Rattle.syn_agent.specs.Machines.{IsOf}
 use Rattle.syn_agent.specs.declared.agent.Agent.{Agent}
 use Rattle.syn_disk.specs.Stops.{LeavesOnly}
 use Rattle.syn_disk.specs.declared.disk.Disk.{Ghosts}
-use Rattle.syn_headline.specs.SideMachine.{SideMachine}
+use Rattle.syn_machine.specs.SideMachine.{SideMachine}
 use Rattle.syn_journal.specs.Layout.{longest_image}
 use Rattle.syn_journal.specs.declared.error.JournalError.TheVariants as journal_error
 use Rattle.syn_journal.specs.Endings.{ended}

@@ -41,9 +41,11 @@
 //!     wants it makes a checkpoint, in a hold of its own. Else it rests.
 //!   - Where the lock is taken nothing was looked at; where it is taken between the two holds, the
 //!     second is refused 12.
-//! - `edit`, `get`, `snapshot` and `put_part` wait for the lock, and say the same after any number
-//!   of exchanges that found it taken (`HeldAfterWait`). No other call of a shared replica may
-//!   wait.
+//! - `edit`, `get`, `status`, `snapshot` and `put_part` wait for the lock, and say the same after
+//!   any number of exchanges that found it taken (`HeldAfterWait`). No other call of a shared
+//!   replica may wait.
+//! - `status` tells where the replica is in its history, also while it is halted (`Tells`), and
+//!   leaves it as it was found.
 //! - `snapshot` answers what the replica has in one hold (`Takes`). `put_part` puts a part of a
 //!   tree in the place of what the replica has at a path (`Puts`). Where an event touched the path
 //!   since the given position it is refused for that, and nothing changes (`touched`). Else the
@@ -59,6 +61,8 @@
 //!   any that the pass had seen (`later`).
 //! - `new` gives the replica back where memory is refused. `into_own` gives the lock, whose `close`
 //!   gives the replica back.
+//! - `with_identity` keeps the lock, and tells what the replica's disk is known by; `identity`
+//!   reads it. A new shared replica has none.
 //! - `serve` is one worker of a program: it borrows the replica and a pool of passes (`fill`),
 //!   lends the pass that was drawn to its `Work`, and puts it back. The pool's type names the lock
 //!   (`IsLock`), so that no pass of another lock comes in. With a pass the work is done, once, and

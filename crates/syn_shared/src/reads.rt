@@ -1,6 +1,6 @@
 //! What is read of a shared replica.
 ghost use Rattle.std.specs.Prelude.{MatchOption};
-ghost use Rattle.syn_shared.specs.Reads.{Gets, Lists, ListsMarks};
+ghost use Rattle.syn_shared.specs.Reads.{Gets, Lists, ListsMarks, Tells};
 ghost use Rattle.syn_shared.specs.Refusals.{answer_in};
 
 use crate::error::{SharedError, answered};
@@ -9,6 +9,7 @@ use crate::shared::SharedReplica;
 use std::alloc::Global;
 use std::sync::Wait;
 use syn_disk::Disk;
+use syn_history::ReplicaStatus;
 use syn_lock::Pass;
 use syn_path::{Name, Path};
 use syn_replica::{Listing, Replica, ReplicaError};
@@ -115,5 +116,29 @@ impl<D: Disk> SharedReplica<D> {
         let content = guard.get(alloc, path);
         own.leave(guard);
         content
+    }
+
+    /// Waits for the lock, and answers where the replica is in its history, with the path that the
+    /// event at the place touched. The greatest number asks for the last touch. It is told also
+    /// while the replica is halted.
+    ///
+    /// Refused 11 where memory is refused, and for no other cause.
+    pub fn status<R: Wait>(
+        &self,
+        rt: &R,
+        alloc: Global,
+        pass: &mut Pass<Replica<D>>,
+        place: u64,
+    ) -> Result<ReplicaStatus, ReplicaError>
+        requires { IsFor self.now pass.old }
+        ensures of { IsFor self.now pass.new }
+        ensures held { HeldAfterWait self.now pass.old pass.new (Tells place result) }
+        ensures later { IsLater self.now pass.old pass.new }
+    {
+        let own = self.own();
+        let guard = pass.enter(rt, own);
+        let status = guard.status(alloc, place);
+        own.leave(guard);
+        status
     }
 }

@@ -1,5 +1,5 @@
 //! A replica under a lock.
-ghost use Rattle.std.specs.Prelude.{◌≡◌, ◌≤◌, IfOk, IfErr};
+ghost use Rattle.std.specs.Prelude.{◌≡◌, ◌≤◌, IfOk, IfErr, None};
 ghost use Rattle.syn_lock.specs.History.{end_of};
 ghost use Rattle.syn_lock.specs.Locks.{origin_of};
 ghost use Rattle.syn_lock.specs.Passes.{view_of};
@@ -9,6 +9,7 @@ ghost use Rattle.syn_replica.specs.Replica.{position_shown};
 
 use std::alloc::Global;
 use syn_disk::Disk;
+use syn_history::Identity;
 use syn_lock::{LockError, Own, Pass, Refused};
 use syn_replica::Replica;
 
@@ -19,21 +20,46 @@ use syn_replica::Replica;
 #[derive(Drop)]
 pub struct SharedReplica<D: Disk> {
     own: Own<Replica<D>>,
+    /// What the replica's disk is known by, where that was told.
+    identity: Option<Identity>,
 }
 
 impl<D: Disk> SharedReplica<D> {
-    ghost use Rattle.syn_shared.specs.Shared.{own_of, IsFor};
+    ghost use Rattle.syn_shared.specs.Shared.{own_of, identity_of, IsFor};
 
-    /// The replica under a lock that is free. Where memory is wanting (11), the replica comes back.
+    /// The replica under a lock that is free, without an identity. Where memory is wanting (11),
+    /// the replica comes back.
     pub fn new(alloc: Global, replica: Replica<D>) -> Result<SharedReplica<D>, Refused<Replica<D>>>
         ensures ok { IfOk result (λ shared. origin_of (own_of shared) ≡ replica) }
+        ensures identity { IfOk result (λ shared. identity_of shared ≡ None) }
         ensures err { IfErr result (λ refused. (refused.error ≡ LockError.Memory)
             × (refused.value ≡ replica)) }
     {
         match Own::new(alloc, replica) {
-            Ok(own) => Ok(SharedReplica { own }),
+            Ok(own) => Ok(SharedReplica {
+                own,
+                identity: None,
+            }),
             Err(refused) => Err(refused),
         }
+    }
+
+    /// The same under the same lock, whose disk is known by the identity.
+    pub fn with_identity(self, identity: Option<Identity>) -> SharedReplica<D>
+        ensures lock { own_of result ≡ own_of self }
+        ensures identity { identity_of result ≡ identity }
+    {
+        SharedReplica {
+            own: self.own,
+            identity,
+        }
+    }
+
+    /// What the replica's disk is known by, where that was told.
+    pub fn identity(&self) -> Option<Identity>
+        ensures { result ≡ identity_of self.now }
+    {
+        self.identity
     }
 
     /// The lock, which gives out passes.

@@ -1,7 +1,7 @@
 -- Lines, as lists of steps.
 use Rattle.std.proofs.Common.{List, [], ◌∷◌, ◌++◌, refl, sym, ap, ◌∙◌, subst}
 use Rattle.std.proofs.lemmas.List.{append-nil, append_assoc}
-use Rattle.syn_headline.specs.World.{Step}
+use Rattle.syn_runs.specs.World.{Step}
 use Rattle.syn_simulate.specs.Lines.{Begins, Plays, PlaysAll, PlaysLine, Said, Says, ToDrain, said}
 use Rattle.syn_simulate.specs.States.{Moves, State}
 use Rattle.syn_simulate.proofs.MoveLemmas.{lowest_moves, moves_on}

@@ -9,7 +9,7 @@ use Rattle.std.proofs.lemmas.List.FromFn.{map-range_with_len_more}
 use Rattle.std.specs.Prelude.{IfSome, Option, Some, None}
 use Rattle.std.specs.List.{range_with_len}
 use Rattle.syn_disk.specs.declared.disk.Disk.{Ghosts}
-use Rattle.syn_headline.specs.World.{Step, Deliver}
+use Rattle.syn_runs.specs.World.{Step, Deliver}
 use Rattle.syn_simulate.specs.Drains.{DeliversLowest, IsLowest, IsNextLeft, NoneIsLeft}
 use Rattle.syn_simulate.specs.Lines.{PlaysAll, Says, ToDrain, deliveries, said}
 use Rattle.syn_simulate.specs.Players.{EndsIn, HasBegun, HasPlayed, HasPlayedAll, IsPlayer}

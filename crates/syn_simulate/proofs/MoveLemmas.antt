@@ -6,9 +6,9 @@ use Rattle.std.proofs.lemmas.Bool.{le-ltb}
 use Rattle.std.proofs.lemmas.Option.{slice_get_past}
 use Rattle.std.specs.List.{range_with_len}
 use Rattle.std.specs.Prelude.{nat_lt}
-use Rattle.syn_headline.specs.World.{Step, Runs, Delivers, no_message}
-use Rattle.syn_headline.specs.World.{Edits, Start, Deliver, Tick, Checkpoint, Fail, Stop, Open}
-use Rattle.syn_headline.specs.World.{Reopen}
+use Rattle.syn_runs.specs.World.{Step, Runs, Delivers, no_message}
+use Rattle.syn_runs.specs.World.{Edits, Start, Deliver, Tick, Checkpoint, Fail, Stop, Open}
+use Rattle.syn_runs.specs.World.{Reopen}
 use Rattle.syn_simulate.specs.Drains.{DeliversLowest, IsLowest}
 use Rattle.syn_simulate.specs.States.{Goes, Moves, State, noted}
 

@@ -3,7 +3,7 @@ use Rattle.std.proofs.Common.{◌≡◌, Bool, List, [], ◌∷◌, length, refl
 use Rattle.std.proofs.lemmas.List.{length-map}
 use Rattle.std.specs.Global.{Vec}
 use Rattle.syn_disk.specs.declared.disk.Disk.{Ghosts}
-use Rattle.syn_headline.specs.World.{World as ModelWorld, Step, Steps}
+use Rattle.syn_runs.specs.World.{World as ModelWorld, Step, Steps}
 use Rattle.syn_simulate.specs.Lines.{Begins, Plays, Said, Says}
 use Rattle.syn_simulate.specs.Players.{AreFlags, HasBegun, HasPlayed, IsPlayer}
 use Rattle.syn_simulate.specs.States.{Moves, State, noted}

@@ -1,10 +1,11 @@
 -- The world after a script.
 use Rattle.std.proofs.Common.{◌≡◌, List, ℕ, refl}
 use Rattle.syn_disk.specs.declared.disk.Disk.{Ghosts}
-use Rattle.syn_headline.specs.Acknowledged.{Stores}
-use Rattle.syn_headline.specs.Headline.{formatted}
-use Rattle.syn_headline.specs.Runs.{stores_of}
-use Rattle.syn_headline.specs.World.{World as ModelWorld, Runs, Step}
+use Rattle.syn_runs.specs.Acknowledged.{Stores}
+use Rattle.syn_promise.specs.Laws.{told_by}
+use Rattle.syn_runs.specs.Headline.{formatted}
+use Rattle.syn_runs.specs.Runs.{stores_of}
+use Rattle.syn_runs.specs.World.{World as ModelWorld, Runs, Step}
 use Rattle.syn_world.specs.CrashSafety.{DiskBytes, IsOpenedFrom}
 use Rattle.syn_simulate.specs.Players.{HasPlayedAll, world_of}
 use Rattle.syn_simulate.specs.States.{fresh}
@@ -28,7 +29,8 @@ use Rattle.syn_world.specs.declared.world.World.{World}
 abbrev pub AsPromised : {D : Type 0} → {disk : Ghosts D} → World D disk → Type 0
 AsPromised world = (pair : ℕ) (before : Stores) (bytes : DiskBytes) (old new : ModelWorld)
     (steps : List Step) → IsOpenedFrom pair bytes old → stores_of old ≡ before
-    → Runs old steps new → IsWorld world new → KeepsPromise pair before steps world
+    → Runs old steps new → IsWorld world new
+    → KeepsPromise pair before steps (told_by new) world
 
 -- a new world, on which the lines of a script are played
 pub runs_script : {D : Type 0} {disk : Ghosts D} (script : Text) (lines : List Line)

@@ -11,9 +11,9 @@ use Rattle.syn_archive.specs.declared.error.ArchiveError.TheVariants as archive_
 use Rattle.syn_disk.specs.Arms.{Arms, is_stopped, no_arms}
 use Rattle.syn_disk.specs.Calls.{Makes}
 use Rattle.syn_disk.specs.declared.disk.Disk.{Ghosts}
-use Rattle.syn_headline.specs.Acknowledged.{history_of}
-use Rattle.syn_headline.specs.Headline.{IsPair, formatted}
-use Rattle.syn_headline.specs.Network.{Which, Left, Right}
+use Rattle.syn_runs.specs.Acknowledged.{history_of}
+use Rattle.syn_runs.specs.Headline.{IsPair, formatted}
+use Rattle.syn_machine.specs.Network.{Which, Left, Right}
 use Rattle.syn_world.specs.Starts.{CanStart, IsFromOutside}
 use Rattle.syn_journal.specs.Calls.{IsFree}
 use Rattle.syn_model.specs.Archive.{new_archive}

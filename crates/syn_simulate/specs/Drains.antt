@@ -1,7 +1,7 @@
 -- What draining is.
 use Rattle.std.specs.Prelude.{◌≡◌, ◌<◌, ◌≤◌, ℕ, true, false, List, [], ◌∷◌, length}
 use Rattle.std.specs.Prelude.{Option, Some, None}
-use Rattle.syn_headline.specs.World.{Step, Deliver}
+use Rattle.syn_runs.specs.World.{Step, Deliver}
 use Rattle.syn_simulate.specs.States.{Goes, State}
 use Rattle.syn_simulate.specs.declared.player.TheConstants.{MOST_DRAINED}
 

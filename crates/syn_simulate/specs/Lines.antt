@@ -1,7 +1,7 @@
 -- What lines say, as steps of a world.
 use Rattle.std.specs.List.{range_with_len}
 use Rattle.std.specs.Prelude.{◌≡◌, ◌++◌, ◌+◌, ◌-◌, ◌≤◌, ℕ, List, [], ◌∷◌, length, map, option_map}
-use Rattle.syn_headline.specs.World as model
+use Rattle.syn_runs.specs.World as model
 use Rattle.syn_path.specs.Sides.{which_of}
 use Rattle.syn_simulate.specs.Drains.{DeliversLowest, Drains}
 use Rattle.syn_simulate.specs.States.{Moves, State}

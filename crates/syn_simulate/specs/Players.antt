@@ -3,7 +3,7 @@ use Rattle.std.specs.Global.{Vec}
 use Rattle.std.specs.Prelude.{◌≡◌, ◌++◌, ◌<◌, ℕ, Bool, true, false, List, ◌∷◌, slice_index_or}
 use Rattle.std.specs.Prelude.{Result, Ok, Err}
 use Rattle.syn_disk.specs.declared.disk.Disk.{Ghosts}
-use Rattle.syn_headline.specs.World.{Runs, Step}
+use Rattle.syn_runs.specs.World.{Runs, Step}
 use Rattle.syn_simulate.specs.Lines.{Begins, Plays, PlaysAll, Said, said}
 use Rattle.syn_simulate.specs.States.{State}
 use Rattle.syn_simulate.specs.declared.player.Player.{Player}

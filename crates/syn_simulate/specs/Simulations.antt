@@ -1,8 +1,9 @@
 -- The world after a script.
 use Rattle.std.specs.Prelude.{List}
 use Rattle.syn_disk.specs.declared.disk.Disk.{Ghosts}
-use Rattle.syn_headline.specs.Headline.{formatted}
-use Rattle.syn_headline.specs.World.{Runs, Step}
+use Rattle.syn_promise.specs.Laws.{told_by}
+use Rattle.syn_runs.specs.Headline.{formatted}
+use Rattle.syn_runs.specs.World.{Runs, Step}
 use Rattle.syn_simulate.specs.Lines.{PlaysAll}
 use Rattle.syn_simulate.specs.States.{State, fresh}
 use Rattle.syn_simulate.specs.Scripts.{IsFirstFault, SaySteps, lines_of}
@@ -26,7 +27,7 @@ pub record LeadsTo {D : Type 0} {disk : Ghosts D} (lines : List Line) (world : W
   pub plays : PlaysAll lines (fresh starts.opens.model) steps new
   pub runs : Runs starts.opens.model steps new.world
   pub ends : IsWorld world new.world
-  pub promised : KeepsPromise 1 formatted steps world
+  pub promised : KeepsPromise 1 formatted steps (told_by new.world) world
 
 -- and the lines are the script's
 pub record RunsScript {D : Type 0} {disk : Ghosts D} (script : Text) (world : World D disk)

@@ -1,7 +1,7 @@
 -- A world that starts from formatted disks.
 use Rattle.std.specs.Prelude.{ℕ}
 use Rattle.syn_disk.specs.declared.disk.Disk.{Ghosts}
-use Rattle.syn_headline.specs.Headline.{formatted}
+use Rattle.syn_runs.specs.Headline.{formatted}
 use Rattle.syn_world.specs.Starts.{IsFromOutside}
 use Rattle.syn_simulate.specs.declared.error.SimulateError.{SimulateError}
 use Rattle.syn_simulate.specs.declared.error.SimulateError.TheVariants.{Memory, Refused, Script}

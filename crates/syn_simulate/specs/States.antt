@@ -1,7 +1,7 @@
 -- A world with what was delivered of its messages, and how it goes by steps.
 use Rattle.std.specs.Prelude.{◌≡◌, ◌==◌, ◌||◌, ℕ, nat_lt, Bool, false, if◌then◌else◌, List, [], ◌∷◌}
 use Rattle.std.specs.Prelude.{length}
-use Rattle.syn_headline.specs.World.{World, Step, Steps, Deliver}
+use Rattle.syn_runs.specs.World.{World, Step, Steps, Deliver}
 
 pub record State : Type 0 where
   pub world : World

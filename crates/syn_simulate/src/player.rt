@@ -1,6 +1,6 @@
 //! A world on which lines are played.
 ghost use Rattle.std.specs.Prelude.{◌≡◌, ◌≤◌, ◌↔◌, ◌∷◌, ◌++◌, [], IfOk, length, true};
-ghost use Rattle.syn_headline.specs.World.{World as ModelWorld, Deliver};
+ghost use Rattle.syn_runs.specs.World.{World as ModelWorld, Deliver};
 ghost use Rattle.syn_simulate.specs.Drains.{IsNextLeft};
 ghost use Rattle.syn_simulate.specs.Lines.{Says, ToDrain, deliveries, said};
 ghost use Rattle.syn_simulate.specs.Players.{PlaysAllTo, PlaysTo, IsPlayer, world_of};

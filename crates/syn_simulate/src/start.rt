@@ -2,7 +2,7 @@
 ghost use Rattle.std.specs.Prelude.{◌≡◌, [], IfErr, IfOk};
 ghost use Rattle.syn_disk.specs.Arms.{no_arms};
 ghost use Rattle.syn_disk.specs.Cut.{arms_of};
-ghost use Rattle.syn_headline.specs.Headline.{formatted};
+ghost use Rattle.syn_runs.specs.Headline.{formatted};
 ghost use Rattle.syn_world.specs.Starts.{CanStart};
 ghost use Rattle.syn_model.specs.Archive.{new_archive};
 ghost use Rattle.syn_archive.specs.Keepings.{of_archive};
@@ -14,8 +14,8 @@ use crate::error::SimulateError;
 use std::alloc::{AllocError, Global};
 use syn_archive::Archive;
 use syn_disk::{Cut, Disk, Leaves, MemDisk};
-use syn_headline::run_laws;
 use syn_replica::Replica;
+use syn_runs::run_laws;
 use syn_world::{Disks, World};
 
 /// The number of the pair that is simulated.

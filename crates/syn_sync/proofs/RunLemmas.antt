@@ -5,8 +5,8 @@ use Rattle.std.proofs.lemmas.Grind.{flat_map-append}
 use Rattle.std.specs.Prelude.{◌&&◌, not}
 use Rattle.syn_disk.specs.Arms.{is_stopped}
 use Rattle.syn_disk.specs.declared.disk.Disk.{Ghosts}
-use Rattle.syn_headline.specs.Coordinator.{Call, CoordinatorMachine}
-use Rattle.syn_headline.specs.Network.{Message, Which}
+use Rattle.syn_machine.specs.Coordinator.{Call, CoordinatorMachine}
+use Rattle.syn_machine.specs.Network.{Message, Which}
 use Rattle.syn_message.specs.Replies.{ReplyMessage}
 use Rattle.syn_model.specs.Archive.{Kept}
 use Rattle.syn_coordinator.specs.Coordinators.{Does, Stands, device_of, goes_down, goes_on}

@@ -6,8 +6,8 @@ use Rattle.syn_archive.specs.Refusals as kept
 use Rattle.syn_archive.specs.declared.error.ArchiveError.{ArchiveError}
 use Rattle.syn_archive.specs.declared.error.ArchiveError.TheVariants as archive
 use Rattle.syn_disk.specs.declared.disk.Disk.{Ghosts}
-use Rattle.syn_headline.specs.Coordinator.{Call, CoordinatorMachine, coordinator_kind}
-use Rattle.syn_headline.specs.MachineSteps.{Checkpoints}
+use Rattle.syn_machine.specs.Coordinator.{Call, CoordinatorMachine, coordinator_kind}
+use Rattle.syn_machine.specs.MachineSteps.{Checkpoints}
 use Rattle.syn_journal.specs.Endings as endings
 use Rattle.syn_journal.proofs.Spent.{counted as grew}
 use Rattle.syn_coordinator.proofs.DueLemmas.{device_or_other}

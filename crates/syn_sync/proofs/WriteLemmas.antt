@@ -7,8 +7,8 @@ use Rattle.std.proofs.lemmas.List.{map-append, take_more}
 use Rattle.std.proofs.KnownBytes.{Appends-nil, Appends-trans}
 use Rattle.std.specs.Io.KnownBytes.{Appends}
 use Rattle.std.specs.Prelude.{◌&&◌}
-use Rattle.syn_headline.specs.Network.{Asks, Left, Right, Which}
-use Rattle.syn_headline.specs.Side.{Request}
+use Rattle.syn_machine.specs.Network.{Asks, Left, Right, Which}
+use Rattle.syn_machine.specs.Side.{Request}
 use Rattle.syn_link.specs.Frames.{AppendsSome, Bytes}
 use Rattle.syn_session.specs.Sendings.{message_of, messages_of}
 use Rattle.syn_session.specs.declared.sending.Sending.{Sending}

@@ -1,6 +1,6 @@
 -- A driver as its contracts see it: each side's connection, and what is read and written there.
 use Rattle.std.specs.Prelude.{Option}
-use Rattle.syn_headline.specs.Network.{Left, Right, Which}
+use Rattle.syn_machine.specs.Network.{Left, Right, Which}
 use Rattle.syn_link.specs.Frames.{Bytes}
 use Rattle.syn_sync.specs.States.{ConnectionState, state_of}
 use Rattle.syn_sync.specs.Outlets.{Outlet, outlet_of}

@@ -2,8 +2,8 @@
 use Rattle.std.specs.Prelude.{◌≡◌, ◌<◌, ℕ, true, Some}
 use Rattle.syn_disk.specs.Arms.{is_stopped}
 use Rattle.syn_disk.specs.declared.disk.Disk.{Ghosts}
-use Rattle.syn_headline.specs.Coordinator.{Call, CoordinatorMachine, coordinator_kind}
-use Rattle.syn_headline.specs.MachineSteps.{Checkpoints}
+use Rattle.syn_machine.specs.Coordinator.{Call, CoordinatorMachine, coordinator_kind}
+use Rattle.syn_machine.specs.MachineSteps.{Checkpoints}
 use Rattle.syn_model.specs.Refusal.{Device, JournalFull, NoAnswer, Refusal, first_cause}
 use Rattle.syn_coordinator.specs.Coordinators.{all_causes, checkpoint_causes, device_of, runs}
 use Rattle.syn_coordinator.specs.declared.coordinator.Coordinator.{Coordinator}

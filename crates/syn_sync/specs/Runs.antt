@@ -4,11 +4,11 @@ use Rattle.std.specs.Prelude.{◌≡◌, ◌⊎◌, ◌&&◌, not, ℕ, true, Li
 use Rattle.std.specs.Prelude.{Option}
 use Rattle.syn_disk.specs.Arms.{is_stopped}
 use Rattle.syn_disk.specs.declared.disk.Disk.{Ghosts}
-use Rattle.syn_headline.specs.Coordinator.{Call, CoordinatorMachine, CoordinatorStarts}
-use Rattle.syn_headline.specs.Coordinator.{CoordinatorTakes, CoordinatorTicks, coordinator_kind}
-use Rattle.syn_headline.specs.Machine as status
-use Rattle.syn_headline.specs.MachineSteps.{Checkpoints}
-use Rattle.syn_headline.specs.Network.{Answers, Asks, Message, Which, is_side}
+use Rattle.syn_machine.specs.Coordinator.{Call, CoordinatorMachine, CoordinatorStarts}
+use Rattle.syn_machine.specs.Coordinator.{CoordinatorTakes, CoordinatorTicks, coordinator_kind}
+use Rattle.syn_machine.specs.Machine as status
+use Rattle.syn_machine.specs.MachineSteps.{Checkpoints}
+use Rattle.syn_machine.specs.Network.{Answers, Asks, Message, Which, is_side}
 use Rattle.syn_link.specs.Frames.{Bytes, frame_of}
 use Rattle.syn_message.specs.Replies.{ReplyMessage}
 use Rattle.syn_message.specs.Requests.{request_spelling}

@@ -2,8 +2,8 @@
 ghost use Rattle.std.specs.Prelude.{◌≡◌, [], ℕ, true, false, IfErr, IfSome, MatchResult, OnOk};
 ghost use Rattle.std.specs.Prelude.{Some, option_map};
 ghost use Rattle.syn_disk.specs.Arms.{is_stopped};
-ghost use Rattle.syn_headline.specs.Coordinator.{CoordinatorMachine};
-ghost use Rattle.syn_headline.specs.Network.{Left, Right, Which};
+ghost use Rattle.syn_machine.specs.Coordinator.{CoordinatorMachine};
+ghost use Rattle.syn_machine.specs.Network.{Left, Right, Which};
 ghost use Rattle.syn_message.specs.Replies.{IsLawfulReplyMessage, reply_message_of};
 ghost use Rattle.syn_path.specs.Sides.{which_of};
 ghost use Rattle.syn_model.specs.Refusal.{JournalFull, first_cause};
@@ -64,9 +64,9 @@ impl<R: Read, W: Write> Driver<R, W> {
     /// refused 8, a checkpoint makes room in the archive, once. The watch is told of each reply,
     /// and of what the coordinator settled with it.
     ///
-    /// Where a connection closes, no side is ready in time, or the coordinator waits for nothing,
-    /// the session is given up: it ends 25, and what that would send again is dropped. The
-    /// coordinator has the report.
+    /// Where a connection closes, no side is ready in time, the watch wants no more, or the
+    /// coordinator waits for nothing, the session is given up: it ends 25, and what that would send
+    /// again is dropped. The coordinator has the report.
     ///
     /// Refused as `start` is, or as the checkpoint is; then no session ran. Refused 9 also where
     /// the coordinator's machine was stopped, and 25 where the session could not be ended.
@@ -105,7 +105,7 @@ impl<R: Read, W: Write> Driver<R, W> {
     }
 
     /// Goes on with the session until it ends, a connection closes, neither side is ready in time,
-    /// or the coordinator waits for nothing.
+    /// the watch wants no more, or the coordinator waits for nothing.
     fn go_on<D: Disk, S: Readiness, V: SessionWatch>(
         &mut self,
         alloc: Global,
@@ -127,7 +127,9 @@ impl<R: Read, W: Write> Driver<R, W> {
             let Some(answered) = self.receive(alloc, from) else {
                 return;
             };
-            watch.heard(from, &answered);
+            if !watch.heard(from, &answered) {
+                return;
+            }
             let sends = hear(alloc, coordinator, from, answered);
             if coordinator.is_cut() {
                 return;

@@ -7,13 +7,14 @@ use syn_path::Side;
 use syn_session::{Report, SettledItems};
 
 /// Is told what happens in a session, as it happens. It sees the session, and changes nothing of
-/// it. No clause says what it is told.
+/// it, but it may have it given up. No clause says what it is told.
 pub trait SessionWatch {
     /// The side cannot be reached, for this reason of the system. No session runs then.
     fn unreached(&mut self, side: Side, why: &io::Error);
 
-    /// The side replied. The coordinator takes the reply after this call.
-    fn heard(&mut self, from: Side, answered: &ReplyMessage);
+    /// The side replied. Whether the session may go on: the coordinator takes the reply after this
+    /// call, or the session is given up and nothing is sent any more.
+    fn heard(&mut self, from: Side, answered: &ReplyMessage) -> bool;
 
     /// The coordinator took the reply. This is what became of the items of its plan so far, and
     /// what it has just written into its archive for them, in the order of the plan.
@@ -43,7 +44,9 @@ pub struct Unwatched;
 impl SessionWatch for Unwatched {
     fn unreached(&mut self, _side: Side, _why: &io::Error) {}
 
-    fn heard(&mut self, _from: Side, _answered: &ReplyMessage) {}
+    fn heard(&mut self, _from: Side, _answered: &ReplyMessage) -> bool {
+        true
+    }
 
     fn settled(&mut self, _settled: &SettledItems<'_>, _kept: &[Kept]) {}
 

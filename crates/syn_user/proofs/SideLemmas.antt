@@ -6,7 +6,7 @@ use Rattle.std.proofs.lemmas.Grind.{flat_map-append}
 use Rattle.std.proofs.lemmas.Result.{IfOk-weaker}
 use Rattle.std.specs.Io.KnownBytes.{Appends}
 use Rattle.std.specs.Prelude.{Result, Ok, Err, IfErr, IfOk}
-use Rattle.syn_headline.specs.Side.{ListAt, Piece, Refused, Request}
+use Rattle.syn_machine.specs.Side.{ListAt, Piece, Refused, Request}
 use Rattle.syn_link.specs.Frames.{Bytes, frame_of}
 use Rattle.syn_message.specs.Replies.{reply_of}
 use Rattle.syn_message.specs.Requests.{IsLawfulRequestMessage, request_spelling}

@@ -8,7 +8,8 @@ use Rattle.syn_link.specs.declared.error.LinkError.TheVariants as link
 use Rattle.syn_link.specs.declared.frames.TheConstants.{LONGEST_BODY}
 use Rattle.syn_message.specs.UserReplies as told
 use Rattle.syn_message.specs.UserReplies.{IsLawfulUserReply, UserReply, user_reply_spelling}
-use Rattle.syn_message.specs.Users.{Edits, Gets, IsLawfulUserRequestMessage, UserRequest}
+use Rattle.syn_message.specs.Users.{AsksStatus, Edits, Gets, IsLawfulUserRequestMessage}
+use Rattle.syn_message.specs.Users.{UserRequest}
 use Rattle.syn_message.specs.Users.{UserRequestMessage, user_request_spelling}
 use Rattle.syn_refusal.specs.Refusals.{cause_of}
 use Rattle.syn_refusal.specs.declared.refusal.Refusal.{Refusal}
@@ -22,14 +23,21 @@ use Rattle.syn_user.specs.declared.error.UserError.TheVariants.{Memory, Refused,
 abbrev pub number_after : ℕ → ℕ
 number_after number = (number + 1) % 2 ^ 32
 
--- an edit is made or refused, and of a question it is told what was found, or it is refused
+-- an edit is made or refused, and a question is answered by what was found, or by where the
+-- replica is, or it is refused
 abbrev pub Answers : UserRequest → UserReply → Type 0
 Answers (Edits user edit) (told.Edited position) = Unit {0}
 Answers (Edits user edit) (told.Got found) = ⊥
+Answers (Edits user edit) (told.States identity status) = ⊥
 Answers (Edits user edit) (told.Refused why) = Unit {0}
 Answers (Gets path) (told.Edited position) = ⊥
 Answers (Gets path) (told.Got found) = Unit {0}
+Answers (Gets path) (told.States identity status) = ⊥
 Answers (Gets path) (told.Refused why) = Unit {0}
+Answers (AsksStatus place) (told.Edited position) = ⊥
+Answers (AsksStatus place) (told.Got found) = ⊥
+Answers (AsksStatus place) (told.States identity status) = Unit {0}
+Answers (AsksStatus place) (told.Refused why) = Unit {0}
 
 module _ (asked : UserRequestMessage) where
   -- its body has more bytes than a frame takes

@@ -2,7 +2,7 @@
 use Rattle.std.specs.Prelude.{◌≡◌, ◌≢◌, ◌⊎◌, ◌≤◌, ◌+◌, ℕ, List, [], ◌∷◌, length, Option, Some}
 use Rattle.std.specs.Prelude.{drop, flat_map, take}
 use Rattle.std.specs.Io.KnownBytes.{Appends}
-use Rattle.syn_headline.specs.Side.{Fetch, ListAt, Listed, NotDir, Piece, Refused, Reply, Request}
+use Rattle.syn_machine.specs.Side.{Fetch, ListAt, Listed, NotDir, Piece, Refused, Reply, Request}
 use Rattle.syn_link.specs.Connections.{held_by, reader_of, writer_of}
 use Rattle.syn_link.specs.Frames.{AppendsSome, Bytes, frame_of}
 use Rattle.syn_link.specs.Streams.{Comes, ComesAtFault, EndsBefore}

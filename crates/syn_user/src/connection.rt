@@ -1,7 +1,8 @@
 //! A user's connection, and the requests over it.
 ghost use Rattle.std.specs.Prelude.{◌≡◌, [], Err, IfErr, IfOk, false, option_map, true};
-ghost use Rattle.syn_message.specs.UserReplies.{Edited, Got, user_reply_of};
-ghost use Rattle.syn_message.specs.Users.{Edits, Gets, IsLawfulUserRequestMessage};
+ghost use Rattle.syn_history.specs.Status.{identity_of, status_of};
+ghost use Rattle.syn_message.specs.UserReplies.{Edited, Got, States, user_reply_of};
+ghost use Rattle.syn_message.specs.Users.{AsksStatus, Edits, Gets, IsLawfulUserRequestMessage};
 ghost use Rattle.syn_message.specs.Users.{UserRequest as Asked};
 ghost use Rattle.syn_message.specs.Users.{user_request_of, user_request_message_of};
 ghost use Rattle.syn_tree.specs.Contents.{content_of};
@@ -16,6 +17,7 @@ use crate::lawful::body_of;
 use crate::reply::reply_to;
 use std::alloc::Global;
 use std::io::{Read, Write};
+use syn_history::{Identity, ReplicaStatus};
 use syn_link::Connection;
 use syn_message::{UserReply, UserRequest, UserRequestMessage, decode_user_reply, message_laws};
 use syn_path::Path;
@@ -81,6 +83,7 @@ impl<R: Read, W: Write> UserConnection<R, W> {
             UserReply::Edited { position } => Ok(position),
             UserReply::Refused(why) => Err(UserError::Refused(why)),
             UserReply::Got { .. } => unreachable!(),
+            UserReply::Status { .. } => unreachable!(),
         }
     }
 
@@ -105,6 +108,34 @@ impl<R: Read, W: Write> UserConnection<R, W> {
             UserReply::Got { found } => Ok(found),
             UserReply::Refused(cause) => Err(UserError::Refused(cause)),
             UserReply::Edited { .. } => unreachable!(),
+            UserReply::Status { .. } => unreachable!(),
+        }
+    }
+
+    /// Asks where the replica is in its history, and which path the event at the place touched.
+    /// Answers what its disk is known by, if it is by anything, and where it is.
+    ///
+    /// Refused as `edit` is, but for the length.
+    pub fn status(
+        &mut self,
+        alloc: Global,
+        place: u64,
+    ) -> Result<(Option<Identity>, ReplicaStatus), UserError>
+        ensures ok { IfOk result (λ stated.
+            IsTold (state_of R.remaining W.contents self.old)
+            (state_of R.remaining W.contents self.new) (AsksStatus place)
+            (States (option_map identity_of stated.0) (status_of stated.1))) }
+        ensures err { IfErr result (λ error.
+            Fails (state_of R.remaining W.contents self.old)
+            (state_of R.remaining W.contents self.new) (AsksStatus place) error) }
+        ensures goes { is_open self.new ≡ goes_on_after result }
+        ensures closed { is_open self.old ≡ false → result ≡ Err UserError.Device }
+    {
+        match self.ask(alloc, UserRequest::Status { place })? {
+            UserReply::Status { identity, status } => Ok((identity, status)),
+            UserReply::Refused(refusal) => Err(UserError::Refused(refusal)),
+            UserReply::Edited { .. } => unreachable!(),
+            UserReply::Got { .. } => unreachable!(),
         }
     }
 

@@ -62,6 +62,10 @@ fn is_lawful(request: &UserRequest) -> bool
             is_path(path);
             true
         }
+        UserRequest::Status { place } => {
+            let _place = *place;
+            true
+        }
     }
 }
 

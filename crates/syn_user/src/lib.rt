@@ -10,10 +10,10 @@
 //! reader is to give, what came and was not handed out, what was written, and the number of the
 //! next request.
 //!
-//! - `edit` and `get` write the frame of one request, and answer what the next frame says, if that
-//!   is a reply to just this request (`ok`: `IsTold`). A refusal has its cause (`err`: `Fails`). It
-//!   is the replica's own, or 9, 11, 21, 22 or 23 of the connection. Or it is 7 for an edit that no
-//!   frame takes, which is not sent.
+//! - `edit`, `get` and `status` write the frame of one request, and answer what the next frame
+//!   says, if that is a reply to just this request (`ok`: `IsTold`). A refusal has its cause
+//!   (`err`: `Fails`). It is the replica's own, or 9, 11, 21, 22 or 23 of the connection. Or it is
+//!   7 for an edit that no frame takes, which is not sent.
 //! - The connection goes on exactly after an Ok and a refusal of the replica (`goes`). On a closed
 //!   one each call is refused 9, and nothing is written (`closed`).
 //!

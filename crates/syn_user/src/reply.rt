@@ -26,7 +26,14 @@ fn is_answer(request: &UserRequest, reply: &UserReply) -> bool
     ensures { IsTrue result ↔ Answers (user_request_of request.now) (user_reply_of reply.now) }
 {
     match request {
-        UserRequest::Edit { .. } => !matches!(reply, UserReply::Got { .. }),
-        UserRequest::Get { .. } => !matches!(reply, UserReply::Edited { .. }),
+        UserRequest::Edit { .. } => {
+            matches!(reply, UserReply::Edited { .. } | UserReply::Refused(_))
+        }
+        UserRequest::Get { .. } => {
+            matches!(reply, UserReply::Got { .. } | UserReply::Refused(_))
+        }
+        UserRequest::Status { .. } => {
+            matches!(reply, UserReply::Status { .. } | UserReply::Refused(_))
+        }
     }
 }

@@ -1,6 +1,6 @@
 //! A connection to a served replica, over which it is asked what a session asks of it.
 ghost use Rattle.std.specs.Prelude.{◌≡◌, ◌<◌, ◌^◌, [], IfErr, IfNone, IfOk, IfSome, false};
-ghost use Rattle.syn_headline.specs.Side.{IsLawfulBody, ListAt, Piece, Refused};
+ghost use Rattle.syn_machine.specs.Side.{IsLawfulBody, ListAt, Piece, Refused};
 ghost use Rattle.syn_message.specs.Replies.{reply_of};
 ghost use Rattle.syn_message.specs.Requests.{IsLawfulRequestMessage, request_spelling, request_of};
 ghost use Rattle.syn_model.specs.Path.{IsPath};

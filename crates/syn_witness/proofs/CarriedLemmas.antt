@@ -9,14 +9,14 @@ use Rattle.syn_model.specs.Mark.{mark}
 use Rattle.syn_model.specs.Archive.{Archive, Kept, Recorded, new_archive, Session}
 use Rattle.syn_model.specs.MarkSpelling.{kept_spelling}
 use Rattle.syn_model.proofs.TreeLemmas.{subtree-replace}
-use Rattle.syn_headline.specs.Machine.{Journaled, unarmed, compacted, with_image, record_size}
-use Rattle.syn_headline.specs.Side.{Replace, Done, token_of}
-use Rattle.syn_headline.specs.Network.{Right, Left, Which}
-use Rattle.syn_headline.specs.Coordinator.{Walk, Exchange, Advances, checkpoints, making_room}
-use Rattle.syn_headline.specs.Coordinator.{start_of, stays, done, archive_layout}
-use Rattle.syn_headline.specs.Headline.{IsQuietSession, IsNoEdit, formatted}
-use Rattle.syn_headline.specs.Runs.{stores_of}
-use Rattle.syn_headline.specs.World.{World, Edits, Start, Deliver, Steps}
+use Rattle.syn_machine.specs.Machine.{Journaled, unarmed, compacted, with_image, record_size}
+use Rattle.syn_machine.specs.Side.{Replace, Done, token_of}
+use Rattle.syn_machine.specs.Network.{Right, Left, Which}
+use Rattle.syn_machine.specs.Coordinator.{Walk, Exchange, Advances, checkpoints, making_room}
+use Rattle.syn_machine.specs.Coordinator.{start_of, stays, done, archive_layout}
+use Rattle.syn_runs.specs.Headline.{IsQuietSession, IsNoEdit, formatted}
+use Rattle.syn_runs.specs.Runs.{stores_of}
+use Rattle.syn_runs.specs.World.{World, Edits, Start, Deliver, Steps}
 use Rattle.syn_witness.specs.Witness.{FileIsCarried, RoomIsMade, opened_with, a_path, put_one, one}
 use Rattle.syn_witness.specs.Witness.{new_archive_room, carried_report, CarriesFile}
 use Rattle.syn_witness.proofs.WitnessFiles.{no_marks, mark_size}

@@ -9,33 +9,33 @@ use Rattle.syn_model.specs.Refusal.{Refusal, Device, Memory, JournalFull, Halted
 use Rattle.syn_model.specs.Refusal.{Cause, first_cause}
 use Rattle.syn_model.specs.Event.{Edit, Put, MakeDir, Remove, Chmod, Event, Edited}
 use Rattle.syn_model.proofs.HistoryLemmas.{first_cause-none}
-use Rattle.syn_headline.specs.Machine.{Status, Up, Halted, Down, Arms, Meets, all_made, one_fails}
-use Rattle.syn_headline.specs.Machine.{one_stops, Journaled, after_device, Compacts}
-use Rattle.syn_headline.specs.MachineSteps.{Kind, Effect, MachineCall, Does, is_halted, refused_by}
-use Rattle.syn_headline.specs.MachineSteps.{causes_at, full_generation, with_device, Calls}
-use Rattle.syn_headline.specs.SideMachine.{SideMachine, side_layout, causes_of, side_kind}
-use Rattle.syn_headline.specs.SideMachine.{EditsSide, edits, UserEdits}
-use Rattle.syn_headline.specs.Network.{Which, Left, Right, Message}
-use Rattle.syn_headline.specs.Coordinator.{CoordinatorMachine, Call, Walk, Exchange, Running}
-use Rattle.syn_headline.specs.Coordinator.{start_of, start_causes, EndsFor, Starts}
-use Rattle.syn_headline.specs.Coordinator.{CoordinatorStarts, coordinator_kind}
-use Rattle.syn_headline.specs.World.{World, Machine, At, Coordinator, Edits, Start, Deliver, Tick}
-use Rattle.syn_headline.specs.World.{Checkpoint, Fail, Stop, Open, Reopen, side_of, side_goes}
-use Rattle.syn_headline.specs.World.{failures_of, refuses_with, SideDoes, side_does}
-use Rattle.syn_headline.specs.World.{CoordinatorDoes, coordinator_does, MachineDoes, Delivers}
-use Rattle.syn_headline.specs.World.{no_message, to_no_side, to_side, to_coordinator, Ticks, ticks}
-use Rattle.syn_headline.proofs.MachineLemmas.{IsStill, LeavesDevice, armed_to_fail, armed_to_stop}
-use Rattle.syn_headline.proofs.MachineLemmas.{calls_tell, does_tell, down_still, halted, cut}
-use Rattle.syn_headline.proofs.MachineLemmas.{open_still, refused, stays, stopped, unopened, lost}
-use Rattle.syn_headline.proofs.View.{neither, up_not_halted}
+use Rattle.syn_machine.specs.Machine.{Status, Up, Halted, Down, Arms, Meets, all_made, one_fails}
+use Rattle.syn_machine.specs.Machine.{one_stops, Journaled, after_device, Compacts}
+use Rattle.syn_machine.specs.MachineSteps.{Kind, Effect, MachineCall, Does, is_halted, refused_by}
+use Rattle.syn_machine.specs.MachineSteps.{causes_at, full_generation, with_device, Calls}
+use Rattle.syn_machine.specs.SideMachine.{SideMachine, side_layout, causes_of, side_kind}
+use Rattle.syn_machine.specs.SideMachine.{EditsSide, edits, UserEdits}
+use Rattle.syn_machine.specs.Network.{Which, Left, Right, Message}
+use Rattle.syn_machine.specs.Coordinator.{CoordinatorMachine, Call, Walk, Exchange, Running}
+use Rattle.syn_machine.specs.Coordinator.{start_of, start_causes, EndsFor, Starts}
+use Rattle.syn_machine.specs.Coordinator.{CoordinatorStarts, coordinator_kind}
+use Rattle.syn_runs.specs.World.{World, Machine, At, Coordinator, Edits, Start, Deliver, Tick}
+use Rattle.syn_runs.specs.World.{Checkpoint, Fail, Stop, Open, Reopen, side_of, side_goes}
+use Rattle.syn_runs.specs.World.{failures_of, refuses_with, SideDoes, side_does}
+use Rattle.syn_runs.specs.World.{CoordinatorDoes, coordinator_does, MachineDoes, Delivers}
+use Rattle.syn_runs.specs.World.{no_message, to_no_side, to_side, to_coordinator, Ticks, ticks}
+use Rattle.syn_runs.proofs.MachineLemmas.{IsStill, LeavesDevice, armed_to_fail, armed_to_stop}
+use Rattle.syn_runs.proofs.MachineLemmas.{calls_tell, does_tell, down_still, halted, cut}
+use Rattle.syn_runs.proofs.MachineLemmas.{open_still, refused, stays, stopped, unopened, lost}
+use Rattle.syn_runs.proofs.View.{neither, up_not_halted}
 use Rattle.syn_witness.specs.Forbidden.{RefusedAfterFailure, EndsAfterFailure}
 use Rattle.syn_witness.proofs.FailureLemmas.{IsCounted, IsCountedJournal, Counted, is_counted}
 use Rattle.syn_witness.proofs.KeptLemmas.{GivesBack, writes_kept, compacts_kept, starts_kept}
 use Rattle.syn_witness.proofs.KeptLemmas.{advances_kept}
 use Rattle.syn_witness.proofs.ForbiddenLemmas.{faultless_report}
-use Rattle.syn_headline.specs.MachineSteps as one
-use Rattle.syn_headline.specs.Coordinator as coordinator
-use Rattle.syn_headline.specs.World as world
+use Rattle.syn_machine.specs.MachineSteps as one
+use Rattle.syn_machine.specs.Coordinator as coordinator
+use Rattle.syn_runs.specs.World as world
 
 -- Which refusals are no 9
 

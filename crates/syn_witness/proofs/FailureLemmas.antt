@@ -1,11 +1,11 @@
 -- A machine is halted only after one of its device calls failed.
 use Rattle.std.proofs.Common.{◌≤◌, ◌<◌, ◌+◌, ◌≡◌, ◌≢◌, ℕ, List, [], ◌∷◌, sym, ◌∙◌, subst, arith}
-use Rattle.syn_headline.specs.Machine.{Status, Halted, Down, Arms, Journaled, Meets, all_made}
-use Rattle.syn_headline.specs.Machine.{one_fails, one_stops}
-use Rattle.syn_headline.specs.World.{World, Machine, At, Coordinator, Step, Runs, failures_of}
-use Rattle.syn_headline.specs.Network.{Left, Right}
-use Rattle.syn_headline.specs.Runs.{IsStart}
-use Rattle.syn_headline.proofs.View.{up_not_halted}
+use Rattle.syn_machine.specs.Machine.{Status, Halted, Down, Arms, Journaled, Meets, all_made}
+use Rattle.syn_machine.specs.Machine.{one_fails, one_stops}
+use Rattle.syn_runs.specs.World.{World, Machine, At, Coordinator, Step, Runs, failures_of}
+use Rattle.syn_machine.specs.Network.{Left, Right}
+use Rattle.syn_runs.specs.Runs.{IsStart}
+use Rattle.syn_runs.proofs.View.{up_not_halted}
 use Rattle.syn_witness.specs.Forbidden.{HaltedAfterFailure}
 use Rattle.syn_witness.proofs.KeptLemmas.{Property, IsKept, AllOf, step_kept}
 

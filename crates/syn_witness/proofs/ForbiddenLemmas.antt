@@ -8,17 +8,17 @@ use Rattle.std.proofs.lemmas.Option.{none-some, same_Some}
 use Rattle.syn_model.specs.Refusal.{Refusal, NoAnswer, Memory, TooLarge, BadMessage, Device, Halted}
 use Rattle.syn_model.specs.Refusal.{JournalFull}
 use Rattle.syn_model.specs.Archive.{Kept}
-use Rattle.syn_headline.specs.Report.{Report, Complete, Incomplete}
-use Rattle.syn_headline.specs.Machine.{Status}
-use Rattle.syn_headline.specs.Coordinator.{CoordinatorMachine, Running, Exchange, Call, Walk}
-use Rattle.syn_headline.specs.Coordinator.{EndsFor, CoordinatorTicks, is_resent, took_not_dir}
-use Rattle.syn_headline.specs.Coordinator.{is_whole, report_of, Takes, after_taking, fault_of}
-use Rattle.syn_headline.specs.Coordinator.{GoesThrough}
-use Rattle.syn_headline.specs.Planning.{Planned}
-use Rattle.syn_headline.proofs.FineRuns.{owe}
+use Rattle.syn_machine.specs.Report.{Report, Complete, Incomplete}
+use Rattle.syn_machine.specs.Machine.{Status}
+use Rattle.syn_machine.specs.Coordinator.{CoordinatorMachine, Running, Exchange, Call, Walk}
+use Rattle.syn_machine.specs.Coordinator.{EndsFor, CoordinatorTicks, is_resent, took_not_dir}
+use Rattle.syn_machine.specs.Coordinator.{is_whole, report_of, Takes, after_taking, fault_of}
+use Rattle.syn_machine.specs.Coordinator.{GoesThrough}
+use Rattle.syn_machine.specs.Planning.{Planned}
+use Rattle.syn_runs.proofs.FineRuns.{owe}
 use Rattle.syn_witness.specs.Forbidden.{StartsFresh, BeginsOnce, FaultsAlone, UnstableIsIncomplete}
 use Rattle.syn_witness.specs.Forbidden.{FailureEnds}
-use Rattle.syn_headline.specs.Coordinator as coordinator
+use Rattle.syn_machine.specs.Coordinator as coordinator
 
 pub one_report : (P : Report → Type 0) (report : Report) → P report → All P (report ∷ [])
 one_report P report h = All-cons P report [] h (All-nil P)

@@ -4,32 +4,32 @@ use Rattle.std.proofs.Common.{slice_get, suc}
 use Rattle.syn_model.specs.Refusal.{Refusal, Full, Cause}
 use Rattle.syn_model.specs.Event.{Event, Edited}
 use Rattle.syn_model.specs.Archive.{Archive, Kept, Session}
-use Rattle.syn_headline.specs.Machine.{Status, Up, Halted, Down, Arms, Journaled, Layout, Meets}
-use Rattle.syn_headline.specs.Machine.{all_made, one_fails, one_stops, Writes, idle, written}
-use Rattle.syn_headline.specs.Machine.{unarmed, unwritten, Compacts, compacted, not_compacted}
-use Rattle.syn_headline.specs.Machine.{Opens, opened, recovered, after_device}
-use Rattle.syn_headline.specs.MachineSteps.{Kind, MachineCall, Does, Calls}
-use Rattle.syn_headline.specs.Side.{Request, Reply}
-use Rattle.syn_headline.specs.SideMachine.{SideMachine, side_layout, SideTakes, answers, adds}
-use Rattle.syn_headline.specs.SideMachine.{causes_of, side_kind, EditsSide, edits}
-use Rattle.syn_headline.specs.Network.{Which, Left, Right, Message}
-use Rattle.syn_headline.specs.Planning.{Planned}
-use Rattle.syn_headline.specs.Coordinator.{CoordinatorMachine, Call, Walk, Exchange, Running}
-use Rattle.syn_headline.specs.Coordinator.{archive_layout, past, refusing, making_room, start_of}
-use Rattle.syn_headline.specs.Coordinator.{Keeps, writes, cut_after, Takes, CoordinatorTakes}
-use Rattle.syn_headline.specs.Coordinator.{CoordinatorStarts, CoordinatorTicks, Advances}
-use Rattle.syn_headline.specs.Coordinator.{start_causes, coordinator_kind}
-use Rattle.syn_headline.specs.World.{World, Machine, At, Coordinator, says, Step, Edits, Start}
-use Rattle.syn_headline.specs.World.{Deliver, Tick, Checkpoint, Fail, Stop, Open, Reopen, side_of}
-use Rattle.syn_headline.specs.World.{side_goes, coordinator_goes, status_of, failures_of}
-use Rattle.syn_headline.specs.World.{refuses_with, side_does, coordinator_does, MachineDoes}
-use Rattle.syn_headline.specs.World.{Delivers, no_message, to_no_side, to_side, to_coordinator}
-use Rattle.syn_headline.specs.World.{Ticks, ticks, Steps}
-use Rattle.syn_headline.proofs.View.{halted_not_up, down_not_up}
-use Rattle.syn_headline.proofs.MachineLemmas.{LeavesDevice, armed_to_fail, armed_to_stop, stopped}
-use Rattle.syn_headline.proofs.MachineLemmas.{unopened, halted, cut, stays, calls_leave, does_leave}
-use Rattle.syn_headline.specs.MachineSteps as one
-use Rattle.syn_headline.specs.Coordinator as coordinator
+use Rattle.syn_machine.specs.Machine.{Status, Up, Halted, Down, Arms, Journaled, Layout, Meets}
+use Rattle.syn_machine.specs.Machine.{all_made, one_fails, one_stops, Writes, idle, written}
+use Rattle.syn_machine.specs.Machine.{unarmed, unwritten, Compacts, compacted, not_compacted}
+use Rattle.syn_machine.specs.Machine.{Opens, opened, recovered, after_device}
+use Rattle.syn_machine.specs.MachineSteps.{Kind, MachineCall, Does, Calls}
+use Rattle.syn_machine.specs.Side.{Request, Reply}
+use Rattle.syn_machine.specs.SideMachine.{SideMachine, side_layout, SideTakes, answers, adds}
+use Rattle.syn_machine.specs.SideMachine.{causes_of, side_kind, EditsSide, edits}
+use Rattle.syn_machine.specs.Network.{Which, Left, Right, Message}
+use Rattle.syn_machine.specs.Planning.{Planned}
+use Rattle.syn_machine.specs.Coordinator.{CoordinatorMachine, Call, Walk, Exchange, Running}
+use Rattle.syn_machine.specs.Coordinator.{archive_layout, past, refusing, making_room, start_of}
+use Rattle.syn_machine.specs.Coordinator.{Keeps, writes, cut_after, Takes, CoordinatorTakes}
+use Rattle.syn_machine.specs.Coordinator.{CoordinatorStarts, CoordinatorTicks, Advances}
+use Rattle.syn_machine.specs.Coordinator.{start_causes, coordinator_kind}
+use Rattle.syn_runs.specs.World.{World, Machine, At, Coordinator, says, Step, Edits, Start}
+use Rattle.syn_runs.specs.World.{Deliver, Tick, Checkpoint, Fail, Stop, Open, Reopen, side_of}
+use Rattle.syn_runs.specs.World.{side_goes, coordinator_goes, status_of, failures_of}
+use Rattle.syn_runs.specs.World.{refuses_with, side_does, coordinator_does, MachineDoes}
+use Rattle.syn_runs.specs.World.{Delivers, no_message, to_no_side, to_side, to_coordinator}
+use Rattle.syn_runs.specs.World.{Ticks, ticks, Steps}
+use Rattle.syn_runs.proofs.View.{halted_not_up, down_not_up}
+use Rattle.syn_runs.proofs.MachineLemmas.{LeavesDevice, armed_to_fail, armed_to_stop, stopped}
+use Rattle.syn_runs.proofs.MachineLemmas.{unopened, halted, cut, stays, calls_leave, does_leave}
+use Rattle.syn_machine.specs.MachineSteps as one
+use Rattle.syn_machine.specs.Coordinator as coordinator
 
 -- it speaks of the status, of what is armed, and of how many calls failed
 abbrev pub Property : Type 1

@@ -4,18 +4,18 @@ use Rattle.std.proofs.Common.{true≢false, List, [], ◌∷◌, length, refl, s
 use Rattle.std.proofs.lemmas.Option.{none-some, same_Some}
 use Rattle.syn_model.specs.Refusal.{Full, Memory, Device, Halted, JournalFull}
 use Rattle.syn_model.specs.Archive.{Archive, Kept}
-use Rattle.syn_headline.specs.Machine.{Status, Up, Journaled, idle, written, unwritten, Compacts}
-use Rattle.syn_headline.specs.Machine.{compacted, not_compacted}
-use Rattle.syn_headline.specs.Planning.{Planned}
-use Rattle.syn_headline.specs.Coordinator.{Walk, Exchange, Running, archive_layout, past, refusing}
-use Rattle.syn_headline.specs.Coordinator.{making_room, start_of, HasNoRoom, Keeps, writes}
-use Rattle.syn_headline.specs.Coordinator.{cut_after, Advances, EndsFor, Call, CoordinatorMachine}
-use Rattle.syn_headline.proofs.View.{not_up}
+use Rattle.syn_machine.specs.Machine.{Status, Up, Journaled, idle, written, unwritten, Compacts}
+use Rattle.syn_machine.specs.Machine.{compacted, not_compacted}
+use Rattle.syn_machine.specs.Planning.{Planned}
+use Rattle.syn_machine.specs.Coordinator.{Walk, Exchange, Running, archive_layout, past, refusing}
+use Rattle.syn_machine.specs.Coordinator.{making_room, start_of, HasNoRoom, Keeps, writes}
+use Rattle.syn_machine.specs.Coordinator.{cut_after, Advances, EndsFor, Call, CoordinatorMachine}
+use Rattle.syn_runs.proofs.View.{not_up}
 use Rattle.syn_witness.specs.Forbidden.{RecordsAfterRoom, CheckpointsAreNeeded}
 use Rattle.syn_witness.specs.Forbidden.{CheckpointsAreForRecords, FullAfterCheckpoint}
 use Rattle.syn_witness.proofs.ForbiddenLemmas.{faultless_report}
 use Rattle.syn_witness.proofs.TurnLemmas.{passes}
-use Rattle.syn_headline.specs.Coordinator as coordinator
+use Rattle.syn_machine.specs.Coordinator as coordinator
 
 keeps_generation : (pair : ℕ) (old new : Journaled Archive Kept) (what : Kept) (kept : List Kept) →
     Keeps pair old what new kept → new.generation ≡ old.generation

@@ -6,18 +6,18 @@ use Rattle.std.proofs.lemmas.List.Elements.{Contains-append_right}
 use Rattle.syn_model.specs.Refusal.{Refusal}
 use Rattle.syn_model.specs.Event.{Event, Edited}
 use Rattle.syn_model.specs.History.{History}
-use Rattle.syn_headline.specs.Machine.{Status, Up, Halted, Down, Arms, IsBefore, Journaled, Meets}
-use Rattle.syn_headline.specs.Machine.{all_made, one_fails, one_stops, Writes, idle, written}
-use Rattle.syn_headline.specs.Machine.{unwritten}
-use Rattle.syn_headline.specs.SideMachine.{SideMachine, side_layout, causes_of, side_kind}
-use Rattle.syn_headline.specs.SideMachine.{EditsSide, edits}
-use Rattle.syn_headline.specs.Network.{Which, Left, Right}
-use Rattle.syn_headline.specs.Acknowledged.{Happened}
-use Rattle.syn_headline.specs.World.{World, Machine, At, Coordinator, Step, Stop, side_of}
-use Rattle.syn_headline.specs.World.{side_goes, status_of, refuses_with, side_does, Runs}
-use Rattle.syn_headline.specs.Runs.{IsStart}
-use Rattle.syn_headline.proofs.MachineLemmas.{calls_leave}
-use Rattle.syn_headline.proofs.View.{halted_not_down, up_not_down}
+use Rattle.syn_machine.specs.Machine.{Status, Up, Halted, Down, Arms, IsBefore, Journaled, Meets}
+use Rattle.syn_machine.specs.Machine.{all_made, one_fails, one_stops, Writes, idle, written}
+use Rattle.syn_machine.specs.Machine.{unwritten}
+use Rattle.syn_machine.specs.SideMachine.{SideMachine, side_layout, causes_of, side_kind}
+use Rattle.syn_machine.specs.SideMachine.{EditsSide, edits}
+use Rattle.syn_machine.specs.Network.{Which, Left, Right}
+use Rattle.syn_runs.specs.Acknowledged.{Happened}
+use Rattle.syn_runs.specs.World.{World, Machine, At, Coordinator, Step, Stop, side_of}
+use Rattle.syn_runs.specs.World.{side_goes, status_of, refuses_with, side_does, Runs}
+use Rattle.syn_runs.specs.Runs.{IsStart}
+use Rattle.syn_runs.proofs.MachineLemmas.{calls_leave}
+use Rattle.syn_runs.proofs.View.{halted_not_down, up_not_down}
 use Rattle.syn_witness.specs.Forbidden.{StaysWithoutStop, StopsAsArmed, ArmedCallsCome}
 use Rattle.syn_witness.proofs.KeptLemmas.{Property, IsKept, AllOf, step_kept}
 

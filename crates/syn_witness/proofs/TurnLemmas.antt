@@ -8,17 +8,17 @@ use Rattle.syn_model.specs.Path.{Path}
 use Rattle.syn_model.specs.Refusal.{Refusal, Full}
 use Rattle.syn_model.specs.Archive.{Archive, Kept}
 use Rattle.syn_model.specs.Decision.{path_of}
-use Rattle.syn_headline.specs.Machine.{Journaled, idle, written, unwritten}
-use Rattle.syn_headline.specs.Side.{Request, ListAt}
-use Rattle.syn_headline.specs.Network.{Which, Left, Right, Message, Asks, Answers}
-use Rattle.syn_headline.specs.Planning.{Planned}
-use Rattle.syn_headline.specs.Coordinator.{Walk, Exchange, Running, BothBegun, MayAsk, AsksNext}
-use Rattle.syn_headline.specs.Coordinator.{asked_count, numbered, messages_to, sent_now}
-use Rattle.syn_headline.specs.Coordinator.{after_taking, past, refusing, making_room, Advances}
-use Rattle.syn_headline.specs.Coordinator.{Keeps, writes, cut_after, IsToKeep}
+use Rattle.syn_machine.specs.Machine.{Journaled, idle, written, unwritten}
+use Rattle.syn_machine.specs.Side.{Request, ListAt}
+use Rattle.syn_machine.specs.Network.{Which, Left, Right, Message, Asks, Answers}
+use Rattle.syn_machine.specs.Planning.{Planned}
+use Rattle.syn_machine.specs.Coordinator.{Walk, Exchange, Running, BothBegun, MayAsk, AsksNext}
+use Rattle.syn_machine.specs.Coordinator.{asked_count, numbered, messages_to, sent_now}
+use Rattle.syn_machine.specs.Coordinator.{after_taking, past, refusing, making_room, Advances}
+use Rattle.syn_machine.specs.Coordinator.{Keeps, writes, cut_after, IsToKeep}
 use Rattle.syn_witness.specs.Forbidden.{ListsAfterBegun, IsPassed, RefusedIsPassed, IsDueWithin}
 use Rattle.syn_witness.specs.Forbidden.{KeptIsDue}
-use Rattle.syn_headline.specs.Coordinator as coordinator
+use Rattle.syn_machine.specs.Coordinator as coordinator
 
 -- What is asked for
 

@@ -14,12 +14,12 @@ use Rattle.syn_model.specs.Spelling.{spelling}
 use Rattle.syn_model.specs.History.{tree_of}
 use Rattle.syn_model.proofs.TreeLemmas.{subtree-replace}
 use Rattle.syn_model.proofs.HistoryLemmas.{event-is_tree, empty-is_tree}
-use Rattle.syn_headline.specs.Side.{ListAt, Fetch, Replace, Listed, Piece, Done, NotDir, answer}
-use Rattle.syn_headline.specs.Side.{serve}
-use Rattle.syn_headline.specs.Network.{Which, Left, Right}
-use Rattle.syn_headline.specs.Planning.{SeesBoth}
-use Rattle.syn_headline.specs.Coordinator.{MakesPlan, WasTaken, BothBegun, fault_of, hearing}
-use Rattle.syn_headline.specs.SideMachine.{has_room_for}
+use Rattle.syn_machine.specs.Side.{ListAt, Fetch, Replace, Listed, Piece, Done, NotDir, answer}
+use Rattle.syn_machine.specs.Side.{serve}
+use Rattle.syn_machine.specs.Network.{Which, Left, Right}
+use Rattle.syn_machine.specs.Planning.{SeesBoth}
+use Rattle.syn_machine.specs.Coordinator.{MakesPlan, WasTaken, BothBegun, fault_of, hearing}
+use Rattle.syn_machine.specs.SideMachine.{has_room_for}
 use Rattle.syn_witness.specs.Rows.{file_bytes}
 use Rattle.syn_witness.specs.Witness.{a_path, one, put_one}
 use Rattle.syn_witness.proofs.WitnessScans.{left_history, left_scan, right_scan}

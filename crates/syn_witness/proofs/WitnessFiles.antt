@@ -31,7 +31,7 @@ use Rattle.syn_model.proofs.PathLemmas.{same_path}
 use Rattle.syn_model.proofs.HistoryLemmas.{at_root-is_part, same_file}
 use Rattle.syn_model.proofs.ContentsLemmas.{new_are_lawful}
 use Rattle.syn_model.proofs.RowLemmas.{entries-at_root}
-use Rattle.syn_headline.specs.Machine.{record_size}
+use Rattle.syn_machine.specs.Machine.{record_size}
 use Rattle.syn_witness.specs.Witness.{a_path, one, put_one}
 use Rattle.syn_witness.specs.Rows.{file_bytes}
 use Rattle.syn_witness.proofs.WitnessTrees.{children_by, replace-entries, mark-entries, get_by}

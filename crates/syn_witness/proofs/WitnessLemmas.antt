@@ -2,7 +2,7 @@
 use Rattle.std.proofs.Common.{refl}
 use Rattle.syn_model.specs.History.{tree_of}
 use Rattle.syn_model.proofs.RowLemmas.{spellings}
-use Rattle.syn_headline.proofs.FormattedLemmas.{formatted_is_pair}
+use Rattle.syn_runs.proofs.FormattedLemmas.{formatted_is_pair}
 use Rattle.syn_witness.specs.Witness.{NewRoomIs, OpenedIsStart}
 use Rattle.syn_witness.proofs.WitnessFiles.{no_marks}
 

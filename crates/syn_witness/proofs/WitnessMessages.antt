@@ -3,9 +3,9 @@
 use Rattle.std.specs.List.{AllByRecursion}
 use Rattle.std.proofs.Common.{ℕ, ◌≡◌, refl, sym, ◌∙◌, inl, inr}
 use Rattle.std.proofs.lemmas.List.Elements.{All-contains, All-from_recursion}
-use Rattle.syn_headline.specs.Side.{Request, Begin, ListAt, Fetch, Stage, Replace}
-use Rattle.syn_headline.specs.Network.{Which, Left, Right, IsRepeat}
-use Rattle.syn_headline.specs.Coordinator.{Running, Outstanding, WasAsked, AsksOnce}
+use Rattle.syn_machine.specs.Side.{Request, Begin, ListAt, Fetch, Stage, Replace}
+use Rattle.syn_machine.specs.Network.{Which, Left, Right, IsRepeat}
+use Rattle.syn_machine.specs.Coordinator.{Running, Outstanding, WasAsked, AsksOnce}
 
 abbrev pub number_of : Request → ℕ
 number_of (Begin pair) = 0

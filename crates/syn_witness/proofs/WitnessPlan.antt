@@ -8,12 +8,12 @@ use Rattle.syn_model.specs.Event.{Edited, Began, Replaced}
 use Rattle.syn_model.specs.Archive.{Archive, Session, Recorded}
 use Rattle.syn_model.specs.Decision.{ToRight}
 use Rattle.syn_model.specs.Dirty.{Scan}
-use Rattle.syn_headline.specs.Side.{Side, Begin, ListAt, Fetch, Stage, Replace, Begun, Listed}
-use Rattle.syn_headline.specs.Side.{Piece, Staged, Done, token_of}
-use Rattle.syn_headline.specs.Network.{Which, Left, Right, Asks, Answers, Sent}
-use Rattle.syn_headline.specs.Acknowledged.{Ack, Happened, Kept_by}
-use Rattle.syn_headline.specs.Planning.{Planned, SessionPlan}
-use Rattle.syn_headline.specs.Coordinator.{Exchange, Running}
+use Rattle.syn_machine.specs.Side.{Side, Begin, ListAt, Fetch, Stage, Replace, Begun, Listed}
+use Rattle.syn_machine.specs.Side.{Piece, Staged, Done, token_of}
+use Rattle.syn_machine.specs.Network.{Which, Left, Right, Asks, Answers, Sent}
+use Rattle.syn_runs.specs.Acknowledged.{Ack, Happened, Kept_by}
+use Rattle.syn_machine.specs.Planning.{Planned, SessionPlan}
+use Rattle.syn_machine.specs.Coordinator.{Exchange, Running}
 use Rattle.syn_witness.specs.Rows.{file_bytes}
 use Rattle.syn_witness.specs.Witness.{a_path, put_one, one}
 use Rattle.syn_witness.proofs.WitnessScans.{left_history, right_history, left_scan, right_scan}

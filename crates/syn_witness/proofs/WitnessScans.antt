@@ -13,7 +13,7 @@ use Rattle.syn_model.specs.Decision.{Item, Do, GoOn, ToRight, decision}
 use Rattle.syn_model.specs.Plan.{items_from, names_below, with_items_below, plan as items_of}
 use Rattle.syn_model.specs.Rows.{a_name}
 use Rattle.syn_model.proofs.PathLemmas.{name_total}
-use Rattle.syn_headline.specs.Network.{Which}
+use Rattle.syn_machine.specs.Network.{Which}
 use Rattle.syn_witness.specs.Witness.{a_path, put_one, one}
 use Rattle.syn_witness.proofs.WitnessTrees.{mark-entries, same_by, part-entries, directory_by}
 use Rattle.syn_witness.proofs.WitnessTrees.{children_by}

@@ -7,12 +7,12 @@ use Rattle.syn_model.specs.Event.{Edited, Began, Replaced}
 use Rattle.syn_model.specs.Archive.{new_archive, Archive, Session}
 use Rattle.syn_model.specs.Refusal.{JournalFull, first_cause}
 use Rattle.syn_model.specs.MarkSpelling.{kept_spelling}
-use Rattle.syn_headline.specs.Side.{Begin, ListAt, Fetch, Stage, Replace, Begun, Listed, Piece}
-use Rattle.syn_headline.specs.Side.{Staged, Done, token_of, Side}
-use Rattle.syn_headline.specs.Network.{Left, Right, Which}
-use Rattle.syn_headline.specs.Coordinator.{stays, makes, Running}
-use Rattle.syn_headline.specs.World.{Edits, Start, Deliver, Steps, Runs, World}
-use Rattle.syn_headline.specs.Machine.{unarmed, written, record_size}
+use Rattle.syn_machine.specs.Side.{Begin, ListAt, Fetch, Stage, Replace, Begun, Listed, Piece}
+use Rattle.syn_machine.specs.Side.{Staged, Done, token_of, Side}
+use Rattle.syn_machine.specs.Network.{Left, Right, Which}
+use Rattle.syn_machine.specs.Coordinator.{stays, makes, Running}
+use Rattle.syn_runs.specs.World.{Edits, Start, Deliver, Steps, Runs, World}
+use Rattle.syn_machine.specs.Machine.{unarmed, written, record_size}
 use Rattle.syn_witness.specs.Rows.{file_bytes}
 use Rattle.syn_witness.specs.Witness.{a_path, put_one, one, opened_with}
 use Rattle.syn_witness.proofs.WitnessScans.{left_scan, right_scan, left_root, right_root}

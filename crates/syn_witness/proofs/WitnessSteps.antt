@@ -19,28 +19,28 @@ use Rattle.syn_model.specs.MarkSpelling.{kept_spelling}
 use Rattle.syn_model.specs.Refusal.{first_cause, JournalFull}
 use Rattle.syn_model.specs.Contents.{Contents, contents_spelling}
 use Rattle.syn_model.proofs.HistoryLemmas.{append-none}
-use Rattle.syn_headline.specs.Machine.{Up, Journaled, unarmed, after_calls, Meets, all_made}
-use Rattle.syn_headline.specs.Machine.{record_size, with_record, Writes, written}
-use Rattle.syn_headline.specs.Side.{room_causes, Side, Request, Begin, Reply, Listed, NotDir, Reads}
-use Rattle.syn_headline.specs.Side.{answer, serve, list_at, staged_bytes, IsLawfulRequest}
-use Rattle.syn_headline.specs.SideMachine.{SideMachine, side_layout, side_now, with_journal}
-use Rattle.syn_headline.specs.SideMachine.{has_room_for, causes_of, said, ServesAs, answers, adds}
-use Rattle.syn_headline.specs.SideMachine.{edits}
-use Rattle.syn_headline.specs.MachineSteps.{causes_at, refused_by, is_done, makes}
-use Rattle.syn_headline.specs.Network.{Which, Left, Right, Asks, Answers, Sent}
-use Rattle.syn_headline.specs.Acknowledged.{Ack, kept_in}
-use Rattle.syn_headline.specs.Planning.{Planned, Log}
-use Rattle.syn_headline.specs.Coordinator.{Exchange, Outstanding, Running, CoordinatorMachine, Call}
-use Rattle.syn_headline.specs.Coordinator.{no_call, Walk, MayAsk, AsksNext, HasPlan, IsDue, Keeps}
-use Rattle.syn_headline.specs.Coordinator.{writes, Advances, stands, keeps, past, settled}
-use Rattle.syn_headline.specs.Coordinator.{is_recorded, archive_layout, asked_of, asked_count}
-use Rattle.syn_headline.specs.Coordinator.{asking, hearing, advanced, start_of, sent_now, fault_of}
-use Rattle.syn_headline.specs.Coordinator.{is_last, report_of, new_session, begins, start_causes}
-use Rattle.syn_headline.specs.Coordinator.{takes, ends, goes_on, starts as session_starts}
-use Rattle.syn_headline.specs.World.{World, Step, Edits, Start, Steps, Runs, side_of, side_goes}
-use Rattle.syn_headline.specs.World.{side_does, coordinator_goes, coordinator_does, says}
-use Rattle.syn_headline.specs.World.{refuses_with, Delivers, to_side, to_coordinator}
-use Rattle.syn_headline.proofs.View.{up_not_down}
+use Rattle.syn_machine.specs.Machine.{Up, Journaled, unarmed, after_calls, Meets, all_made}
+use Rattle.syn_machine.specs.Machine.{record_size, with_record, Writes, written}
+use Rattle.syn_machine.specs.Side.{room_causes, Side, Request, Begin, Reply, Listed, NotDir, Reads}
+use Rattle.syn_machine.specs.Side.{answer, serve, list_at, staged_bytes, IsLawfulRequest}
+use Rattle.syn_machine.specs.SideMachine.{SideMachine, side_layout, side_now, with_journal}
+use Rattle.syn_machine.specs.SideMachine.{has_room_for, causes_of, said, ServesAs, answers, adds}
+use Rattle.syn_machine.specs.SideMachine.{edits}
+use Rattle.syn_machine.specs.MachineSteps.{causes_at, refused_by, is_done, makes}
+use Rattle.syn_machine.specs.Network.{Which, Left, Right, Asks, Answers, Sent}
+use Rattle.syn_runs.specs.Acknowledged.{Ack, kept_in}
+use Rattle.syn_machine.specs.Planning.{Planned, Log}
+use Rattle.syn_machine.specs.Coordinator.{Exchange, Outstanding, Running, CoordinatorMachine, Call}
+use Rattle.syn_machine.specs.Coordinator.{no_call, Walk, MayAsk, AsksNext, HasPlan, IsDue, Keeps}
+use Rattle.syn_machine.specs.Coordinator.{writes, Advances, stands, keeps, past, settled}
+use Rattle.syn_machine.specs.Coordinator.{is_recorded, archive_layout, asked_of, asked_count}
+use Rattle.syn_machine.specs.Coordinator.{asking, hearing, advanced, start_of, sent_now, fault_of}
+use Rattle.syn_machine.specs.Coordinator.{is_last, report_of, new_session, begins, start_causes}
+use Rattle.syn_machine.specs.Coordinator.{takes, ends, goes_on, starts as session_starts}
+use Rattle.syn_runs.specs.World.{World, Step, Edits, Start, Steps, Runs, side_of, side_goes}
+use Rattle.syn_runs.specs.World.{side_does, coordinator_goes, coordinator_does, says}
+use Rattle.syn_runs.specs.World.{refuses_with, Delivers, to_side, to_coordinator}
+use Rattle.syn_runs.proofs.View.{up_not_down}
 use Rattle.syn_witness.specs.Witness.{new_room, new_journal}
 use Rattle.syn_witness.proofs.WitnessMessages.{AreNumbered, asks_once}
 

@@ -5,19 +5,19 @@ use Rattle.syn_model.specs.Refusal.{Refusal, Device, JournalFull, NoAnswer, TooL
 use Rattle.syn_model.specs.Event.{Edit}
 use Rattle.syn_model.specs.Path.{Path}
 use Rattle.syn_model.specs.Decision.{path_of}
-use Rattle.syn_headline.specs.Side.{Begin, ListAt}
-use Rattle.syn_headline.specs.Network.{Which, Asks}
-use Rattle.syn_headline.specs.Report.{Complete}
-use Rattle.syn_headline.specs.Coordinator.{CoordinatorMachine, Running, Exchange, Call, Takes}
-use Rattle.syn_headline.specs.Coordinator.{CoordinatorStarts, CoordinatorTicks, fault_of}
-use Rattle.syn_headline.specs.Coordinator.{took_not_dir, hearing, Walk, IsToKeep, Advances}
-use Rattle.syn_headline.specs.Coordinator.{BothBegun, IsDue, HasNoRoom}
-use Rattle.syn_headline.specs.Planning.{Planned}
+use Rattle.syn_machine.specs.Side.{Begin, ListAt}
+use Rattle.syn_machine.specs.Network.{Which, Asks}
+use Rattle.syn_machine.specs.Report.{Complete}
+use Rattle.syn_machine.specs.Coordinator.{CoordinatorMachine, Running, Exchange, Call, Takes}
+use Rattle.syn_machine.specs.Coordinator.{CoordinatorStarts, CoordinatorTicks, fault_of}
+use Rattle.syn_machine.specs.Coordinator.{took_not_dir, hearing, Walk, IsToKeep, Advances}
+use Rattle.syn_machine.specs.Coordinator.{BothBegun, IsDue, HasNoRoom}
+use Rattle.syn_machine.specs.Planning.{Planned}
 use Rattle.syn_model.specs.Archive.{Kept}
-use Rattle.syn_headline.specs.Machine.{Halted, Down, IsBefore}
-use Rattle.syn_headline.specs.World.{World, Machine, At, Step, Edits, Stop, Steps, Runs, side_of}
-use Rattle.syn_headline.specs.World.{status_of, failures_of}
-use Rattle.syn_headline.specs.Runs.{IsStart}
+use Rattle.syn_machine.specs.Machine.{Halted, Down, IsBefore}
+use Rattle.syn_runs.specs.World.{World, Machine, At, Step, Edits, Stop, Steps, Runs, side_of}
+use Rattle.syn_runs.specs.World.{status_of, failures_of}
+use Rattle.syn_runs.specs.Runs.{IsStart}
 
 -- without a stop among the steps no machine goes down
 abbrev pub StaysWithoutStop : Type 0

@@ -4,9 +4,9 @@ use Rattle.syn_model.specs.Path.{Bytes}
 use Rattle.syn_model.specs.Rows.{a_name}
 use Rattle.syn_model.specs.Refusal.{OldSession, NotStaged, BadStage, WrongPair, Halted, Memory}
 use Rattle.syn_model.specs.Event.{Event, Began}
-use Rattle.syn_headline.specs.Side.{Side, Request, Begin, Stage, Replace, Served, Begun, Staged}
-use Rattle.syn_headline.specs.Side.{Refused, answer, serve}
-use Rattle.syn_headline.specs.SideMachine.{serve_halted, ServesHalted}
+use Rattle.syn_machine.specs.Side.{Side, Request, Begin, Stage, Replace, Served, Begun, Staged}
+use Rattle.syn_machine.specs.Side.{Refused, answer, serve}
+use Rattle.syn_machine.specs.SideMachine.{serve_halted, ServesHalted}
 
 -- a side of pair 7 that was just formatted, with room for all
 abbrev pub new_side : Side

@@ -9,15 +9,15 @@ use Rattle.syn_model.specs.MarkSpelling.{archive_spelling}
 use Rattle.syn_model.specs.History.{standing_of, tree_of}
 use Rattle.syn_model.specs.Mark.{mark}
 use Rattle.syn_model.specs.Archive.{Session, Recorded, new_archive}
-use Rattle.syn_headline.specs.Network.{Which, Left, Right}
-use Rattle.syn_headline.specs.Acknowledged.{Happened, Kept_by}
-use Rattle.syn_headline.specs.Report.{Report, Complete}
-use Rattle.syn_headline.specs.Machine.{Up, Journaled, unarmed, room_after}
-use Rattle.syn_headline.specs.SideMachine.{SideMachine}
-use Rattle.syn_headline.specs.World.{World, Edits, Start, Deliver, Runs}
-use Rattle.syn_headline.specs.Runs.{IsStart, stores_of}
-use Rattle.syn_headline.specs.Headline.{formatted, IsQuietSession, PlansWith}
-use Rattle.syn_headline.specs.Side.{token_of}
+use Rattle.syn_machine.specs.Network.{Which, Left, Right}
+use Rattle.syn_runs.specs.Acknowledged.{Happened, Kept_by}
+use Rattle.syn_machine.specs.Report.{Report, Complete}
+use Rattle.syn_machine.specs.Machine.{Up, Journaled, unarmed, room_after}
+use Rattle.syn_machine.specs.SideMachine.{SideMachine}
+use Rattle.syn_runs.specs.World.{World, Edits, Start, Deliver, Runs}
+use Rattle.syn_runs.specs.Runs.{IsStart, stores_of}
+use Rattle.syn_runs.specs.Headline.{formatted, IsQuietSession, PlansWith}
+use Rattle.syn_machine.specs.Side.{token_of}
 
 -- what the image of no events leaves of a half of the disk
 abbrev pub new_room : ℕ

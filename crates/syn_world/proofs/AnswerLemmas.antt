@@ -8,11 +8,11 @@ use Rattle.syn_agent.specs.Machines.{IsOf, Takes, goes_on, heard, stops}
 use Rattle.syn_agent.specs.declared.agent.Agent.{Agent}
 use Rattle.syn_disk.specs.Arms.{is_stopped}
 use Rattle.syn_disk.specs.declared.disk.Disk.{Ghosts}
-use Rattle.syn_headline.specs.Machine.{Status, Up, Halted, Down, Arms, Meets, unarmed, Writes}
-use Rattle.syn_headline.specs.Machine.{one_stops, idle, written, unwritten}
-use Rattle.syn_headline.specs.Side.{Reply, Request}
-use Rattle.syn_headline.specs.SideMachine.{SideMachine, SideTakes, answers, adds, side_layout}
-use Rattle.syn_headline.specs.SideMachine.{staging_after, with_journal}
+use Rattle.syn_machine.specs.Machine.{Status, Up, Halted, Down, Arms, Meets, unarmed, Writes}
+use Rattle.syn_machine.specs.Machine.{one_stops, idle, written, unwritten}
+use Rattle.syn_machine.specs.Side.{Reply, Request}
+use Rattle.syn_machine.specs.SideMachine.{SideMachine, SideTakes, answers, adds, side_layout}
+use Rattle.syn_machine.specs.SideMachine.{staging_after, with_journal}
 use Rattle.syn_world.specs.Outcomes.{Acknowledges, refused_in}
 use Rattle.syn_world.specs.SideSteps.{Answers, Journal, takes}
 use Rattle.syn_world.specs.Sides.{AnswerIsStep, RunsAs, Settles, SettlesAdded}

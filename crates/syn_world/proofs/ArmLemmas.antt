@@ -4,9 +4,9 @@ use Rattle.syn_agent.specs.declared.agent.Agent.{Agent}
 use Rattle.syn_disk.specs.Arms.{is_stopped}
 use Rattle.syn_disk.specs.Disk.{NothingNew}
 use Rattle.syn_disk.specs.declared.disk.Disk.{Ghosts}
-use Rattle.syn_headline.specs.Machine.{Status, Up, Halted, Down, Arms}
-use Rattle.syn_headline.specs.MachineSteps.{with_device}
-use Rattle.syn_headline.specs.SideMachine.{SideMachine, side_kind}
+use Rattle.syn_machine.specs.Machine.{Status, Up, Halted, Down, Arms}
+use Rattle.syn_machine.specs.MachineSteps.{with_device}
+use Rattle.syn_machine.specs.SideMachine.{SideMachine, side_kind}
 use Rattle.syn_world.specs.Sides.{RunsAs}
 use Rattle.syn_model.specs.History.{History}
 use Rattle.syn_journal.specs.Calls.{armed_at}

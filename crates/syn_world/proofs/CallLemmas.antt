@@ -4,20 +4,20 @@ use Rattle.std.proofs.Common.{map, option_map, subst, ◌⊎◌, ◌≤◌, arit
 use Rattle.std.proofs.lemmas.Option.{none-some}
 use Rattle.std.specs.Global.{Vec}
 use Rattle.syn_disk.specs.declared.disk.Disk.{Ghosts}
-use Rattle.syn_headline.specs.Coordinator.{Call, CoordinatorMachine, CoordinatorStarts}
-use Rattle.syn_headline.specs.Coordinator.{CoordinatorTicks, Keeps, archive_layout, cut_after}
-use Rattle.syn_headline.specs.Coordinator.{gives_up, no_call, no_session, resends, running_after}
-use Rattle.syn_headline.specs.Coordinator.{Starts, coordinator_kind, start_breaks, start_causes}
-use Rattle.syn_headline.specs.Coordinator.{writes}
-use Rattle.syn_headline.specs.MachineSteps.{Checkpoint, Checkpoints, Does as MachineDoes, causes_at}
-use Rattle.syn_headline.specs.MachineSteps.{checkpoints, full_generation, is_done, makes}
-use Rattle.syn_headline.specs.MachineSteps.{refused_by}
-use Rattle.syn_headline.specs.Coordinator as walk
-use Rattle.syn_headline.specs.Machine.{Status, Up, Halted, Down, Compacts, compacted, not_compacted}
-use Rattle.syn_headline.specs.Machine.{unarmed, Writes, idle, unwritten}
-use Rattle.syn_headline.specs.Machine as kinds
-use Rattle.syn_headline.specs.Network.{Message}
-use Rattle.syn_headline.specs.Report.{Report}
+use Rattle.syn_machine.specs.Coordinator.{Call, CoordinatorMachine, CoordinatorStarts}
+use Rattle.syn_machine.specs.Coordinator.{CoordinatorTicks, Keeps, archive_layout, cut_after}
+use Rattle.syn_machine.specs.Coordinator.{gives_up, no_call, no_session, resends, running_after}
+use Rattle.syn_machine.specs.Coordinator.{Starts, coordinator_kind, start_breaks, start_causes}
+use Rattle.syn_machine.specs.Coordinator.{writes}
+use Rattle.syn_machine.specs.MachineSteps.{Checkpoint, Checkpoints, Does as MachineDoes, causes_at}
+use Rattle.syn_machine.specs.MachineSteps.{checkpoints, full_generation, is_done, makes}
+use Rattle.syn_machine.specs.MachineSteps.{refused_by}
+use Rattle.syn_machine.specs.Coordinator as walk
+use Rattle.syn_machine.specs.Machine.{Status, Up, Halted, Down, Compacts, compacted, not_compacted}
+use Rattle.syn_machine.specs.Machine.{unarmed, Writes, idle, unwritten}
+use Rattle.syn_machine.specs.Machine as kinds
+use Rattle.syn_machine.specs.Network.{Message}
+use Rattle.syn_machine.specs.Report.{Report}
 use Rattle.syn_world.specs.Coordinators.{CoordinatorStep, IsCoordinator, archive_disk}
 use Rattle.syn_world.specs.CoordinatorSteps.{CallIsStep, IsToTell, Settles, Unrefused}
 use Rattle.syn_world.specs.CoordinatorSteps.{refuses_nothing}

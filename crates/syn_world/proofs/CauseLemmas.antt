@@ -2,9 +2,9 @@
 use Rattle.std.proofs.Common.{◌≡◌, ◌≢◌, ◌⊎◌, ◌∙◌, ◌+◌, ◌-◌, ℕ, true, not, List, [], ◌∷◌}
 use Rattle.std.proofs.Common.{◌++◌, Option, Some, None, ap, inl, inr, refl, sym}
 use Rattle.std.specs.Prelude.{nat_le, length}
-use Rattle.syn_headline.specs.SideMachine.{SideMachine, causes_of}
-use Rattle.syn_headline.specs.Machine.{Up, Halted}
-use Rattle.syn_headline.specs.MachineSteps.{causes_at, is_halted}
+use Rattle.syn_machine.specs.SideMachine.{SideMachine, causes_of}
+use Rattle.syn_machine.specs.Machine.{Up, Halted}
+use Rattle.syn_machine.specs.MachineSteps.{causes_at, is_halted}
 use Rattle.syn_model.specs.Event.{Edit, Edited}
 use Rattle.syn_model.specs.History.{event_causes}
 use Rattle.syn_model.specs.Refusal.{Refusal, Cause, first_cause}

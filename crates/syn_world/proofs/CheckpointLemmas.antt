@@ -5,11 +5,11 @@ use Rattle.std.proofs.lemmas.Bool.Decides.{nat_tests}
 use Rattle.std.specs.Prelude.{◌^◌, nat_le, length}
 use Rattle.syn_agent.specs.declared.agent.Agent.{Agent}
 use Rattle.syn_disk.specs.declared.disk.Disk.{Ghosts}
-use Rattle.syn_headline.specs.Machine.{Halted, Down, Compacts, compacted, not_compacted, unarmed}
-use Rattle.syn_headline.specs.Machine.{with_image}
-use Rattle.syn_headline.specs.MachineSteps.{Checkpoint, Does, causes_at, checkpoints}
-use Rattle.syn_headline.specs.MachineSteps.{full_generation, is_done, makes, refused_by, refuses}
-use Rattle.syn_headline.specs.SideMachine.{SideMachine, side_kind, side_layout, with_journal}
+use Rattle.syn_machine.specs.Machine.{Halted, Down, Compacts, compacted, not_compacted, unarmed}
+use Rattle.syn_machine.specs.Machine.{with_image}
+use Rattle.syn_machine.specs.MachineSteps.{Checkpoint, Does, causes_at, checkpoints}
+use Rattle.syn_machine.specs.MachineSteps.{full_generation, is_done, makes, refused_by, refuses}
+use Rattle.syn_machine.specs.SideMachine.{SideMachine, side_kind, side_layout, with_journal}
 use Rattle.syn_journal.specs.Endings.{CountsFailures}
 use Rattle.syn_journal.specs.Machines.{compacting}
 use Rattle.syn_journal.proofs.Spent.{none_counted}

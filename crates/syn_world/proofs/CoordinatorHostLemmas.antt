@@ -1,10 +1,10 @@
 -- What is armed at a coordinator, and a stop of it, are steps of its machine.
 use Rattle.std.proofs.Common.{◌≡◌, ◌≢◌, ◌∙◌, ℕ, None, Option, Some, inl, inr, refl, sym, ap}
 use Rattle.syn_disk.specs.declared.disk.Disk.{Ghosts}
-use Rattle.syn_headline.specs.Coordinator.{CoordinatorMachine, coordinator_kind, running_after}
-use Rattle.syn_headline.specs.Machine.{Status, Up, Halted, Down, Arms, after_device, unarmed}
-use Rattle.syn_headline.specs.MachineSteps.{with_device}
-use Rattle.syn_headline.specs.Session.{Running}
+use Rattle.syn_machine.specs.Coordinator.{CoordinatorMachine, coordinator_kind, running_after}
+use Rattle.syn_machine.specs.Machine.{Status, Up, Halted, Down, Arms, after_device, unarmed}
+use Rattle.syn_machine.specs.MachineSteps.{with_device}
+use Rattle.syn_machine.specs.Session.{Running}
 use Rattle.syn_coordinator.specs.Coordinators.{Stands, with_arms}
 use Rattle.syn_coordinator.specs.Machines.{Journal}
 use Rattle.syn_coordinator.specs.Tries.{Tries}

@@ -1,8 +1,8 @@
 -- What is armed at a coordinator, and a stop of it, are steps of the world.
 use Rattle.std.proofs.Common.{[], subst}
 use Rattle.syn_disk.specs.declared.disk.Disk.{Ghosts}
-use Rattle.syn_headline.specs.Coordinator.{CoordinatorMachine, no_call}
-use Rattle.syn_headline.specs.World.{World as ModelWorld, CoordinatorDoes}
+use Rattle.syn_machine.specs.Coordinator.{CoordinatorMachine, no_call}
+use Rattle.syn_runs.specs.World.{World as ModelWorld, CoordinatorDoes}
 use Rattle.syn_world.specs.Coordinators.{CoordinatorStep, IsCoordinator}
 use Rattle.syn_world.specs.declared.coordinator.CoordinatorHost.{CoordinatorHost}
 use Rattle.syn_world.specs.Worlds.{IsRunning}

@@ -2,13 +2,13 @@
 use Rattle.std.proofs.Common.{◌≡◌, ◌≢◌, ◌⊎◌, ◌<◌, ◌≤◌, ◌+◌, ◌∷◌, [], ℕ, List, ap, arith, inl, inr}
 use Rattle.std.proofs.Common.{Some, refl, slice_get}
 use Rattle.std.proofs.lemmas.Option.{none-some, same_Some}
-use Rattle.syn_headline.specs.Coordinator.{Call, CoordinatorMachine, archive_layout}
-use Rattle.syn_headline.specs.Coordinator.{coordinator_kind}
-use Rattle.syn_headline.specs.Machine.{Arms, Down, Halted, Meets, Status, Up, all_made, one_fails}
-use Rattle.syn_headline.specs.Machine.{one_stops}
-use Rattle.syn_headline.specs.MachineSteps.{OpensDown, Reopens, is_open, no_memory_to_open}
-use Rattle.syn_headline.specs.MachineSteps.{no_memory_to_reopen, open_fails, opens, reopen_fails}
-use Rattle.syn_headline.specs.MachineSteps.{reopen_is_cut, reopens}
+use Rattle.syn_machine.specs.Coordinator.{Call, CoordinatorMachine, archive_layout}
+use Rattle.syn_machine.specs.Coordinator.{coordinator_kind}
+use Rattle.syn_machine.specs.Machine.{Arms, Down, Halted, Meets, Status, Up, all_made, one_fails}
+use Rattle.syn_machine.specs.Machine.{one_stops}
+use Rattle.syn_machine.specs.MachineSteps.{OpensDown, Reopens, is_open, no_memory_to_open}
+use Rattle.syn_machine.specs.MachineSteps.{no_memory_to_reopen, open_fails, opens, reopen_fails}
+use Rattle.syn_machine.specs.MachineSteps.{reopen_is_cut, reopens}
 use Rattle.syn_journal.specs.Endings.{CountsFailures}
 use Rattle.syn_model.specs.Archive.{CanKeep}
 use Rattle.syn_model.specs.Refusal.{Device, Refusal}

@@ -2,12 +2,12 @@
 use Rattle.std.proofs.Common.{◌≡◌, ◌≢◌, ◌∙◌, ◌<◌, ◌≤◌, ◌∷◌, [], ℕ, List, Option, None, ap}
 use Rattle.std.proofs.Common.{option_map, refl, subst, sym}
 use Rattle.syn_disk.specs.declared.disk.Disk.{Ghosts}
-use Rattle.syn_headline.specs.Coordinator.{Call, CoordinatorMachine, archive_layout}
-use Rattle.syn_headline.specs.Coordinator.{coordinator_kind, no_call}
-use Rattle.syn_headline.specs.Machine.{Down, Halted, Opens, Status, Up, opened, recovered, unarmed}
-use Rattle.syn_headline.specs.MachineSteps.{Does as MachineDoes, Reopen, Reopens, is_done}
-use Rattle.syn_headline.specs.MachineSteps.{no_memory_to_reopen, reopen_fails, reopen_is_cut}
-use Rattle.syn_headline.specs.MachineSteps.{reopens}
+use Rattle.syn_machine.specs.Coordinator.{Call, CoordinatorMachine, archive_layout}
+use Rattle.syn_machine.specs.Coordinator.{coordinator_kind, no_call}
+use Rattle.syn_machine.specs.Machine.{Down, Halted, Opens, Status, Up, opened, recovered, unarmed}
+use Rattle.syn_machine.specs.MachineSteps.{Does as MachineDoes, Reopen, Reopens, is_done}
+use Rattle.syn_machine.specs.MachineSteps.{no_memory_to_reopen, reopen_fails, reopen_is_cut}
+use Rattle.syn_machine.specs.MachineSteps.{reopens}
 use Rattle.syn_world.specs.CoordinatorOpenings.{OpeningIsStep, SettlesFound, gives_found}
 use Rattle.syn_world.specs.Coordinators.{IsCoordinator, archive_disk}
 use Rattle.syn_world.specs.Outcomes.{causes_in}

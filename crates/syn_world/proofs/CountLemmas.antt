@@ -7,21 +7,21 @@ use Rattle.syn_coordinator.specs.Coordinators.{BreaksOff, FailsOrStops, HaltsByF
 use Rattle.syn_coordinator.specs.Coordinators.{TellsNone, archive_of, device_of}
 use Rattle.syn_coordinator.specs.declared.coordinator.Coordinator.{Coordinator as Session}
 use Rattle.syn_disk.specs.declared.disk.Disk.{Ghosts}
-use Rattle.syn_headline.specs.Coordinator.{Advances, Call, CoordinatorMachine, CoordinatorStarts}
-use Rattle.syn_headline.specs.Coordinator.{CoordinatorTakes, CoordinatorTicks, Exchange, Keeps}
-use Rattle.syn_headline.specs.Coordinator.{Takes, Walk, archive_layout, coordinator_kind}
-use Rattle.syn_headline.specs.Coordinator.{cut_after, gives_up, ignores, no_session, resends}
-use Rattle.syn_headline.specs.Coordinator.{start_breaks, takes, writes}
-use Rattle.syn_headline.specs.Coordinator as walk
-use Rattle.syn_headline.specs.Machine.{Arms, Compacts, Down, Halted, Meets, Status, Up, Writes}
-use Rattle.syn_headline.specs.Machine.{after_device, all_made, compacted, idle, not_compacted}
-use Rattle.syn_headline.specs.Machine.{one_fails, one_stops, unwritten}
-use Rattle.syn_headline.specs.Machine as kinds
-use Rattle.syn_headline.specs.MachineSteps.{Checkpoints, checkpoints}
-use Rattle.syn_headline.specs.Network.{Which}
-use Rattle.syn_headline.specs.Planning.{Planned}
-use Rattle.syn_headline.specs.Session.{Running}
-use Rattle.syn_headline.specs.Side.{Reply}
+use Rattle.syn_machine.specs.Coordinator.{Advances, Call, CoordinatorMachine, CoordinatorStarts}
+use Rattle.syn_machine.specs.Coordinator.{CoordinatorTakes, CoordinatorTicks, Exchange, Keeps}
+use Rattle.syn_machine.specs.Coordinator.{Takes, Walk, archive_layout, coordinator_kind}
+use Rattle.syn_machine.specs.Coordinator.{cut_after, gives_up, ignores, no_session, resends}
+use Rattle.syn_machine.specs.Coordinator.{start_breaks, takes, writes}
+use Rattle.syn_machine.specs.Coordinator as walk
+use Rattle.syn_machine.specs.Machine.{Arms, Compacts, Down, Halted, Meets, Status, Up, Writes}
+use Rattle.syn_machine.specs.Machine.{after_device, all_made, compacted, idle, not_compacted}
+use Rattle.syn_machine.specs.Machine.{one_fails, one_stops, unwritten}
+use Rattle.syn_machine.specs.Machine as kinds
+use Rattle.syn_machine.specs.MachineSteps.{Checkpoints, checkpoints}
+use Rattle.syn_machine.specs.Network.{Which}
+use Rattle.syn_machine.specs.Planning.{Planned}
+use Rattle.syn_machine.specs.Session.{Running}
+use Rattle.syn_machine.specs.Side.{Reply}
 use Rattle.syn_world.proofs.SideLemmas.{halted_not_down, halted_not_up}
 use Rattle.syn_world.specs.Coordinators.{archive_disk}
 use Rattle.syn_world.specs.declared.coordinator.CoordinatorHost.{CoordinatorHost}

@@ -1,4 +1,4 @@
--- Three disks are a start, and a run from them is crash safe.
+-- Three disks are a start, and what a run from them leaves stands for what it acknowledged.
 use Rattle.std.proofs.Common.{◌≡◌, ℕ, ◌⊎◌, false, [], ◌∷◌, ◌++◌, Option, Some, None, refl, sym, ap}
 use Rattle.std.proofs.Common.{◌∙◌, subst, inl, inr}
 use Rattle.syn_model.specs.Path.{Bytes}
@@ -6,26 +6,20 @@ use Rattle.syn_model.specs.Event.{Event}
 use Rattle.syn_model.specs.History.{History, IsAllowed}
 use Rattle.syn_model.specs.Archive.{Archive, Kept, CanKeep, after_kept}
 use Rattle.syn_journal.specs.Layout.{bytes_left}
-use Rattle.syn_headline.specs.Machine.{Journaled, Up, unarmed}
-use Rattle.syn_headline.specs.Network.{Which, Left, Right}
-use Rattle.syn_headline.specs.Acknowledged.{Stores, history_of, stores_after, Grown, ArchiveGrown}
-use Rattle.syn_headline.specs.World.{World, side_of}
-use Rattle.syn_headline.specs.Runs.{stores_of, picture_of, OfEachRun, RunsStand}
-use Rattle.syn_headline.specs.Runs.{RunsArePictured}
-use Rattle.syn_headline.specs.Headline.{EachReplacementIsLegal, EachEntryWasHeld, LeavesPair}
-use Rattle.syn_headline.specs.Headline.{LogsPlans, Owes, CompleteSessionsSynchronize}
-use Rattle.syn_headline.specs.Headline.{CompleteSessionsReconcile, PreferenceLeavesOne}
-use Rattle.syn_headline.specs.Headline.{RecoveredIsLegal, EachTokenOnce, ReportsItsConflicts}
-use Rattle.syn_headline.specs.Headline.{CountsItsItems, CarriedIsMarked, HeldIsMarked}
-use Rattle.syn_headline.specs.Reported.{EachReportTells}
-use Rattle.syn_headline.specs.Picture as picture
+use Rattle.syn_machine.specs.Machine.{Journaled, Up, unarmed}
+use Rattle.syn_machine.specs.Network.{Which, Left, Right}
+use Rattle.syn_runs.specs.Acknowledged.{Stores, history_of, stores_after, Grown, ArchiveGrown}
+use Rattle.syn_runs.specs.World.{World, side_of}
+use Rattle.syn_runs.specs.Runs.{stores_of, picture_of, OfEachRun, RunsStand}
+use Rattle.syn_runs.specs.Headline.{LeavesPair}
+use Rattle.syn_runs.specs.Picture as picture
 use Rattle.syn_journal.specs.Meaning.{Keeping, IsDiskOf, IsOf, MayBeOf, as_kept, with_record}
 use Rattle.syn_journal.specs.Meaning.{compacted}
 use Rattle.syn_archive.specs.Keepings.{of_archive}
 use Rattle.syn_replica.specs.Keepings.{of_side}
 use Rattle.syn_world.specs.CrashSafety.{DiskBytes, DisksAreStart, DisksStand, IsOpenedFrom}
-use Rattle.syn_world.specs.CrashSafety.{RunsAreCrashSafe, disk_of}
-use Rattle.syn_headline.proofs.StandLemmas.{at_start}
+use Rattle.syn_world.specs.CrashSafety.{RunsRecover, disk_of}
+use Rattle.syn_runs.proofs.StandLemmas.{at_start}
 
 -- Before the run
 
@@ -174,80 +168,43 @@ archive_grown pair machine old new is (inr (added, writing, can, more)) =
     subst (λ w. ArchiveGrown w old new) (sym writing)
     (inr (subst (λ a. CanKeep a added) is can, more ∙ ap (λ a. after_kept a added) is))
 
--- what holds of every run, law by law
-pub record Laws : Type 0 where
-  pub pictured : RunsArePictured
-  pub stand : RunsStand
-  pub legal : OfEachRun EachReplacementIsLegal
-  pub recovered : OfEachRun RecoveredIsLegal
-  pub tokens : OfEachRun EachTokenOnce
-  pub held : OfEachRun EachEntryWasHeld
-  pub again : OfEachRun LeavesPair
-  pub logged : OfEachRun LogsPlans
-  pub owe : OfEachRun Owes
-  pub synchronized : OfEachRun CompleteSessionsSynchronize
-  pub reconciled : OfEachRun CompleteSessionsReconcile
-  pub preferred : OfEachRun PreferenceLeavesOne
-  pub conflicts : OfEachRun ReportsItsConflicts
-  pub counts : OfEachRun CountsItsItems
-  pub marked : OfEachRun CarriedIsMarked
-  pub kept : OfEachRun HeldIsMarked
-  pub tell : OfEachRun EachReportTells
-
-module _ (laws : Laws) where
-  pub runs_are_crash_safe : RunsAreCrashSafe
-  runs_are_crash_safe pair disks later old new steps opened runs left =
-      let before = stores_of old in
-      let stands = laws.stand before old new steps runs (at_start old opened.start.nothing_yet.1) in
-      let of_left = recovers (of_side new.pair) new.left.journal later.left (left.side Left) in
-      let of_right = recovers (of_side new.pair) new.right.journal later.right (left.side Right) in
-      let of_both = recovers
-      (of_archive new.pair) new.coordinator.journal later.archive left.archive in
-      let now : Stores = record { left = of_left.0; right = of_right.0; archive = of_both.0 } in
-      let after = stores_after before new.acknowledged in
-      let left_grown =
-      history_grown new.pair new.left.journal after.left of_left.0 stands.left of_left.2 in
-      let right_grown =
-      history_grown new.pair new.right.journal after.right of_right.0 stands.right of_right.2 in
-      let grown = archive_grown new.pair new.coordinator.journal after.archive of_both.0
-      stands.archive of_both.2 in
+pub runs_recover : RunsStand → OfEachRun LeavesPair → RunsRecover
+runs_recover stays again pair disks later old new steps opened runs left =
+    let before = stores_of old in
+    let stands = stays before old new steps runs (at_start old opened.start.nothing_yet.1) in
+    let of_left = recovers (of_side new.pair) new.left.journal later.left (left.side Left) in
+    let of_right = recovers (of_side new.pair) new.right.journal later.right (left.side Right) in
+    let of_both = recovers
+    (of_archive new.pair) new.coordinator.journal later.archive left.archive in
+    let now : Stores = record { left = of_left.0; right = of_right.0; archive = of_both.0 } in
+    let after = stores_after before new.acknowledged in
+    let left_grown =
+    history_grown new.pair new.left.journal after.left of_left.0 stands.left of_left.2 in
+    let right_grown =
+    history_grown new.pair new.right.journal after.right of_right.0 stands.right of_right.2 in
+    let grown = archive_grown new.pair new.coordinator.journal after.archive of_both.0
+    stands.archive of_both.2 in (
+      now,
       record {
-        now = now;
-        recovered = record {
-          stand = record {
-            side =
-                λ which. elim which as (λ which. IsDiskOf (of_side new.pair) (disk_of later which)
-                (history_of now which)) [
-                  | Left ↦ of_left.1
-                  | Right ↦ of_right.1
-                ];
-            archive = of_both.1;
-            is_pair =
-                laws.again old new steps opened.start runs of_left.0 of_right.0 of_both.0 left_grown
-                right_grown grown;
-          };
+        stand = record {
           side =
-              λ which. elim which as (λ which. Grown (picture.side_of (picture_of new)
-              which).writing
-              (history_of after which) (history_of now which)) [
-                | Left ↦ left_grown
-                | Right ↦ right_grown
+              λ which. elim which as (λ which. IsDiskOf (of_side new.pair) (disk_of later which)
+              (history_of now which)) [
+                | Left ↦ of_left.1
+                | Right ↦ of_right.1
               ];
-          archive = grown;
+          archive = of_both.1;
+          is_pair =
+              again old new steps opened.start runs of_left.0 of_right.0 of_both.0 left_grown
+              right_grown grown;
         };
-        pictured = laws.pictured old new steps opened.start runs;
-        replaced = laws.legal old new steps opened.start runs;
-        given_back = laws.recovered old new steps opened.start runs;
-        once = laws.tokens old new steps opened.start runs;
-        archived = laws.held old new steps opened.start runs;
-        planned = laws.logged old new steps opened.start runs;
-        owes = laws.owe old new steps opened.start runs;
-        synchronized = laws.synchronized old new steps opened.start runs;
-        reconciled = laws.reconciled old new steps opened.start runs;
-        preferred = laws.preferred old new steps opened.start runs;
-        conflicts = laws.conflicts old new steps opened.start runs;
-        counts = laws.counts old new steps opened.start runs;
-        carried = laws.marked old new steps opened.start runs;
-        held = laws.kept old new steps opened.start runs;
-        reported = laws.tell old new steps opened.start runs;
-      }
+        side =
+            λ which. elim which as (λ which. Grown (picture.side_of (picture_of new)
+            which).writing
+            (history_of after which) (history_of now which)) [
+              | Left ↦ left_grown
+              | Right ↦ right_grown
+            ];
+        archive = grown;
+      },
+    )

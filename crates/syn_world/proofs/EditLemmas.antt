@@ -4,11 +4,11 @@ use Rattle.std.proofs.Common.{Some, None, refl, sym, ap, subst, inl, inr}
 use Rattle.std.specs.Prelude.{length}
 use Rattle.syn_agent.specs.declared.agent.Agent.{Agent}
 use Rattle.syn_disk.specs.declared.disk.Disk.{Ghosts}
-use Rattle.syn_headline.specs.Machine.{Halted, Down, Writes, unarmed, unwritten, with_record}
-use Rattle.syn_headline.specs.Machine as model
-use Rattle.syn_headline.specs.MachineSteps.{causes_at, is_done, makes, refused_by, refuses}
-use Rattle.syn_headline.specs.SideMachine.{SideMachine, UserEdits, causes_of, edits, side_layout}
-use Rattle.syn_headline.specs.SideMachine.{with_journal}
+use Rattle.syn_machine.specs.Machine.{Halted, Down, Writes, unarmed, unwritten, with_record}
+use Rattle.syn_machine.specs.Machine as model
+use Rattle.syn_machine.specs.MachineSteps.{causes_at, is_done, makes, refused_by, refuses}
+use Rattle.syn_machine.specs.SideMachine.{SideMachine, UserEdits, causes_of, edits, side_layout}
+use Rattle.syn_machine.specs.SideMachine.{with_journal}
 use Rattle.syn_journal.specs.Endings.{CountsFailures}
 use Rattle.syn_journal.specs.Machines.{writing}
 use Rattle.syn_journal.proofs.Spent.{none_counted}

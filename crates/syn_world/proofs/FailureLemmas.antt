@@ -1,8 +1,8 @@
 -- No machine counts more failures than its disk, step by step.
 use Rattle.std.proofs.Common.{◌≡◌, arith, subst, sym}
 use Rattle.syn_disk.specs.declared.disk.Disk.{Ghosts}
-use Rattle.syn_headline.specs.Network.{Left, Right}
-use Rattle.syn_headline.specs.World.{World as ModelWorld, At, Coordinator}
+use Rattle.syn_machine.specs.Network.{Left, Right}
+use Rattle.syn_runs.specs.World.{World as ModelWorld, At, Coordinator}
 use Rattle.syn_journal.specs.Calls.{CountsNoMore}
 use Rattle.syn_world.specs.Failures.{Counts, CountAlike, FailWithDisks, failures_on}
 use Rattle.syn_world.specs.declared.world.Disks.{Disks}

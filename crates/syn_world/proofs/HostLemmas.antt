@@ -1,9 +1,9 @@
 -- A side whose machine is down, or is open already, stays as it is.
 use Rattle.std.proofs.Common.{◌≡◌, ◌∙◌, ℕ, [], ap, arith, refl, sym, subst}
 use Rattle.syn_disk.specs.declared.disk.Disk.{Ghosts}
-use Rattle.syn_headline.specs.Machine.{Down}
-use Rattle.syn_headline.specs.MachineSteps.{OpensDown, is_open}
-use Rattle.syn_headline.specs.SideMachine.{SideMachine, side_kind}
+use Rattle.syn_machine.specs.Machine.{Down}
+use Rattle.syn_machine.specs.MachineSteps.{OpensDown, is_open}
+use Rattle.syn_machine.specs.SideMachine.{SideMachine, side_kind}
 use Rattle.syn_world.specs.Outcomes.{Acknowledges, refused_in}
 use Rattle.syn_world.specs.SideSteps.{SideStep}
 use Rattle.syn_world.specs.Sides.{CallIsStep, IsHost, IsStep, side_disk}

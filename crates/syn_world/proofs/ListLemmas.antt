@@ -5,11 +5,11 @@ use Rattle.std.proofs.lemmas.List.{append-nil, length-map, map-append}
 use Rattle.std.proofs.lemmas.List.Elements.{All-append, All-cons, All-get_or, All-nil}
 use Rattle.std.proofs.lemmas.Option.{get_or_from_slice_get, slice_get_within}
 use Rattle.std.specs.Prelude.{All, IfSome, option_map, slice_get}
-use Rattle.syn_headline.specs.Acknowledged.{Ack, Happened, Kept_by}
-use Rattle.syn_headline.specs.Coordinator.{Call}
-use Rattle.syn_headline.specs.Network.{Answers, Message, Which}
-use Rattle.syn_headline.specs.Report.{Report}
-use Rattle.syn_headline.specs.World.{World as ModelWorld, says}
+use Rattle.syn_runs.specs.Acknowledged.{Ack, Happened, Kept_by}
+use Rattle.syn_machine.specs.Coordinator.{Call}
+use Rattle.syn_machine.specs.Network.{Answers, Message, Which}
+use Rattle.syn_machine.specs.Report.{Report}
+use Rattle.syn_runs.specs.World.{World as ModelWorld, says}
 use Rattle.syn_world.specs.Outcomes.{Acknowledges, Tells, refused_in}
 use Rattle.syn_world.specs.declared.outcome.CoordinatorOutcome.{CoordinatorOutcome}
 use Rattle.syn_world.specs.declared.outcome.SideOutcome.{SideOutcome}

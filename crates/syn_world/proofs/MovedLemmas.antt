@@ -7,8 +7,8 @@ use Rattle.syn_agent.specs.Machines.{IsOf}
 use Rattle.syn_agent.specs.declared.agent.Agent.{Agent}
 use Rattle.syn_disk.specs.Arms.{is_stopped}
 use Rattle.syn_disk.specs.declared.disk.Disk.{Ghosts}
-use Rattle.syn_headline.specs.Machine.{Status, Up, Halted, Down, unarmed}
-use Rattle.syn_headline.specs.SideMachine.{SideMachine, staging_after, with_journal}
+use Rattle.syn_machine.specs.Machine.{Status, Up, Halted, Down, unarmed}
+use Rattle.syn_machine.specs.SideMachine.{SideMachine, staging_after, with_journal}
 use Rattle.syn_journal.specs.Calls.{CountsNoMore}
 use Rattle.syn_journal.specs.Endings.{CountsFailures, Grows, is_device}
 use Rattle.syn_model.specs.Event.{Event}

@@ -4,11 +4,11 @@ use Rattle.std.proofs.Common.{None, inl, inr, refl, sym, ap, subst, arith, lengt
 use Rattle.std.specs.Prelude.{length}
 use Rattle.syn_agent.specs.Agents.{staging_of}
 use Rattle.syn_agent.specs.declared.agent.Agent.{Agent}
-use Rattle.syn_headline.specs.Machine.{Down, Opens}
-use Rattle.syn_headline.specs.Machine.{Journaled, Layout, opened, recovered}
-use Rattle.syn_headline.specs.MachineSteps.{OpensDown, no_memory_to_open, open_fails, opens}
-use Rattle.syn_headline.specs.MachineSteps.{with_device}
-use Rattle.syn_headline.specs.SideMachine.{SideMachine, side_kind, side_layout, with_journal}
+use Rattle.syn_machine.specs.Machine.{Down, Opens}
+use Rattle.syn_machine.specs.Machine.{Journaled, Layout, opened, recovered}
+use Rattle.syn_machine.specs.MachineSteps.{OpensDown, no_memory_to_open, open_fails, opens}
+use Rattle.syn_machine.specs.MachineSteps.{with_device}
+use Rattle.syn_machine.specs.SideMachine.{SideMachine, side_kind, side_layout, with_journal}
 use Rattle.syn_world.specs.Outcomes.{Acknowledges}
 use Rattle.syn_world.specs.SideSteps.{Journal}
 use Rattle.syn_world.specs.Sides.{CallIsStep, Gains, RestsAs, TriesWriting}

@@ -2,8 +2,8 @@
 use Rattle.std.proofs.Common.{◌≡◌, None, Option, Some, IfSome, ap, option_map}
 use Rattle.std.specs.Prelude.{Result}
 use Rattle.syn_disk.specs.declared.disk.Disk.{Ghosts}
-use Rattle.syn_headline.specs.Coordinator.{Call, CoordinatorMachine}
-use Rattle.syn_headline.specs.World.{World as ModelWorld, Step, Steps}
+use Rattle.syn_machine.specs.Coordinator.{Call, CoordinatorMachine}
+use Rattle.syn_runs.specs.World.{World as ModelWorld, Step, Steps}
 use Rattle.syn_world.specs.CoordinatorOpenings.{gives_found}
 use Rattle.syn_world.specs.Coordinators.{IsCoordinator, archive_disk}
 use Rattle.syn_world.specs.Outcomes.{Tells, causes_in}

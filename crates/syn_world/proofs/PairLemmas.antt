@@ -1,17 +1,17 @@
 -- No step changes the pair of a world.
 use Rattle.std.proofs.Common.{◌≡◌, ◌∙◌, List, [], ◌∷◌, ap, refl, Option}
 use Rattle.std.specs.Prelude.{slice_get}
-use Rattle.syn_headline.specs.Coordinator.{Call, CoordinatorMachine}
-use Rattle.syn_headline.specs.MachineSteps.{Effect, MachineCall}
-use Rattle.syn_headline.specs.Network.{Left, Message, Right, Which}
-use Rattle.syn_headline.specs.SideMachine.{SideMachine}
-use Rattle.syn_headline.specs.World as world
-use Rattle.syn_headline.specs.World.{At, Checkpoint, Coordinator, CoordinatorDoes, Deliver}
-use Rattle.syn_headline.specs.World.{Delivers, Edits, Fail, Machine, MachineDoes, Open, Reopen}
-use Rattle.syn_headline.specs.World.{Runs, SideDoes, Start, Step, Steps, Stop, Tick, Ticks, World}
-use Rattle.syn_headline.specs.World.{set_side}
+use Rattle.syn_machine.specs.Coordinator.{Call, CoordinatorMachine}
+use Rattle.syn_machine.specs.MachineSteps.{Effect, MachineCall}
+use Rattle.syn_machine.specs.Network.{Left, Message, Right, Which}
+use Rattle.syn_machine.specs.SideMachine.{SideMachine}
+use Rattle.syn_runs.specs.World as world
+use Rattle.syn_runs.specs.World.{At, Checkpoint, Coordinator, CoordinatorDoes, Deliver}
+use Rattle.syn_runs.specs.World.{Delivers, Edits, Fail, Machine, MachineDoes, Open, Reopen}
+use Rattle.syn_runs.specs.World.{Runs, SideDoes, Start, Step, Steps, Stop, Tick, Ticks, World}
+use Rattle.syn_runs.specs.World.{set_side}
 use Rattle.syn_model.specs.Event.{Event}
-use Rattle.syn_headline.specs.MachineSteps as one
+use Rattle.syn_machine.specs.MachineSteps as one
 
 abbrev SamePair : World → World → Type 0
 SamePair old new = new.pair ≡ old.pair

@@ -6,12 +6,12 @@ use Rattle.std.proofs.lemmas.Option.{same_Some}
 use Rattle.syn_archive.specs.Archive.{shown}
 use Rattle.syn_disk.specs.declared.disk.Disk.{Ghosts}
 use Rattle.syn_replica.specs.Machines.{StandsAs}
-use Rattle.syn_headline.specs.Acknowledged.{Stores, history_of}
-use Rattle.syn_headline.specs.Coordinator.{CoordinatorMachine}
-use Rattle.syn_headline.specs.Machine.{Up, Down}
-use Rattle.syn_headline.specs.Runs.{stores_of, picture_of}
-use Rattle.syn_headline.specs.SideMachine.{SideMachine}
-use Rattle.syn_headline.specs.World.{World as ModelWorld, Runs, Step}
+use Rattle.syn_runs.specs.Acknowledged.{Stores, history_of}
+use Rattle.syn_machine.specs.Coordinator.{CoordinatorMachine}
+use Rattle.syn_machine.specs.Machine.{Up, Down}
+use Rattle.syn_runs.specs.Runs.{IsStart, stores_of, picture_of}
+use Rattle.syn_machine.specs.SideMachine.{SideMachine}
+use Rattle.syn_runs.specs.World.{World as ModelWorld, Runs, Step}
 use Rattle.syn_world.specs.Coordinators.{IsCoordinator}
 use Rattle.syn_world.specs.Sides.{IsHost, replica_of}
 use Rattle.syn_world.specs.declared.coordinator.CoordinatorHost.{CoordinatorHost}
@@ -22,16 +22,18 @@ use Rattle.syn_model.specs.History.{tree_of}
 use Rattle.syn_path.specs.Sides.{which_of}
 use Rattle.syn_path.specs.declared.side.Side.{Side}
 use Rattle.syn_path.specs.declared.side.Side.TheVariants as side
-use Rattle.syn_promise.specs.Laws.{MayStand, RunsKeepPromise, told_by}
-use Rattle.syn_promise.specs.Promise.{Promised}
-use Rattle.syn_world.specs.CrashSafety.{DiskBytes, DisksStand, IsCrashSafe, IsOpenedFrom}
-use Rattle.syn_world.specs.CrashSafety.{RunsAreCrashSafe}
+use Rattle.syn_model.specs.Path.{Bytes}
+use Rattle.syn_promise.specs.Laws.{RunsKeepPromise, told_by}
+use Rattle.syn_promise.specs.Promise.{Promised, Told}
+use Rattle.syn_world.specs.CrashSafety.{DiskBytes, DisksStand, IsOpenedFrom, IsRecovered}
+use Rattle.syn_world.specs.CrashSafety.{RunsRecover}
 use Rattle.syn_replica.specs.Replica.{tree_shown}
-use Rattle.syn_world.specs.Failures.{disks_in}
-use Rattle.syn_world.specs.Headlines.{IsSafeRun, MayHold, Recovers}
-use Rattle.syn_world.specs.Openings.{OpensFrom}
-use Rattle.syn_world.specs.Promises.{Holds, HoldsAsPromised, KeepsPromise, Shows, StandAsPromised}
-use Rattle.syn_world.specs.Worlds.{IsWorld, archive_at, archive_by, pair_by, replica_by}
+use Rattle.syn_world.specs.Failures.{FailWithDisks, disks_in, failures_on}
+use Rattle.syn_world.specs.Headlines.{IsRun}
+use Rattle.syn_world.specs.Openings.{OpensFrom, shown_on}
+use Rattle.syn_world.specs.Promises.{Holds, HoldsAsPromised, KeepsPromise, LeavePromised, Shows}
+use Rattle.syn_world.specs.Promises.{StandAsPromised}
+use Rattle.syn_world.specs.Worlds.{AreLeft, IsWorld, archive_at, archive_by, pair_by, replica_by}
 use Rattle.syn_world.specs.Worlds.{acknowledged_by, refusals_by, report_in, reports_by}
 use Rattle.syn_world.specs.Worlds as worlds
 use Rattle.syn_refusal.specs.Refusals.{cause_of}
@@ -40,19 +42,14 @@ use Rattle.syn_world.specs.declared.world.World.{World}
 use Rattle.syn_world.proofs.HeadlineLemmas.{may_be_left, world_left}
 use Rattle.syn_world.proofs.PairLemmas.{run_keeps_pair}
 
--- a run that is crash safe with these bytes keeps its promise with them
+-- a run keeps its promise with what its disks then stand for
 promised_of : RunsKeepPromise → (before : Stores) (old new : ModelWorld) (steps : List Step)
-    (pair : ℕ) (bytes later : DiskBytes) → IsOpenedFrom pair bytes old → stores_of old ≡ before
-    → Runs old steps new
-    → (safe : IsCrashSafe before steps new.refusals (picture_of new) later)
-    → Promised before steps (told_by new) safe.now
-promised_of law before old new steps pair bytes later opened same runs safe =
-    subst (λ b. Promised b steps (told_by new) safe.now) same
-    (law old new steps safe.now opened.start runs
-    (subst (λ b. MayStand b (picture_of new) safe.now) (sym same) (record {
-      side = safe.recovered.side;
-      archive = safe.recovered.archive;
-    })))
+    (later : DiskBytes) (now : Stores) → IsStart old → stores_of old ≡ before → Runs old steps new
+    → IsRecovered (stores_of old) (picture_of new) later now
+    → Promised before steps (told_by new) now
+promised_of law before old new steps later now start same runs found =
+    subst (λ b. Promised b steps (told_by new) now) same
+    (law old new steps now start runs (record { side = found.side; archive = found.archive }))
 
 shows_told : {D : Type 0} {disk : Ghosts D} (world : World D disk) (new : ModelWorld)
     → IsWorld world new → Shows world (told_by new)
@@ -63,34 +60,53 @@ shows_told world new is = record {
   reports = ap (λ o. map report_in (reports_by o)) is.there ∙ is.is.lists.reports;
 }
 
-module _ {D : Type 0} {disk : Ghosts D} (crash_safe : RunsAreCrashSafe) (law : RunsKeepPromise)
-    (pair : ℕ) (before : Stores) (bytes : DiskBytes) (old new : ModelWorld) (steps : List Step)
-    (world : World D disk) (opened : IsOpenedFrom pair bytes old) (same : stores_of old ≡ before)
-    (runs : Runs old steps new) (is : IsWorld world new) where
-  left_so : (disks : Disks D) → disks_in is.running ≡ disks → (later : DiskBytes)
-      → MayHold disk.may_leave disks later
-      → StandAsPromised pair before steps (told_by new) later
-  left_so disks are later holds =
-      let left = subst (λ d. worlds.AreLeft disk.may_leave d new) are
-      (world_left is.running new is.is.machines) in
-      let safe = subst (λ b. IsCrashSafe b steps new.refusals (picture_of new) later) same
-      (crash_safe pair bytes later old new steps opened runs
-      (may_be_left disk.may_leave disks new left later holds)) in
+module _ (recover : RunsRecover) (law : RunsKeepPromise) (pair : ℕ) (before : Stores)
+    (bytes : DiskBytes) (old new : ModelWorld) (steps : List Step)
+    (opened : IsOpenedFrom pair bytes old) (same : stores_of old ≡ before)
+    (runs : Runs old steps new) where
+  -- whatever a stop may leave on the disks of its machines, the promise holds of it
+  pub leave_promised : {D : Type 0} (may_leave : D → Bytes → Type 0) (later : Disks D)
+      → AreLeft may_leave later new
+      → LeavePromised may_leave pair before steps (told_by new) later
+  leave_promised may_leave later left shown holds =
+      let found = recover pair bytes shown old new steps opened runs
+      (may_be_left may_leave later new left shown holds) in
       record {
-        now = safe.now;
-        stand = subst (λ p. DisksStand p later safe.now)
-            (run_keeps_pair old steps new runs ∙ opened.pair_is) safe.recovered.stand;
-        promised = promised_of law before old new steps pair bytes later opened same runs safe;
+        now = found.0;
+        stand = subst (λ p. DisksStand p shown found.0)
+            (run_keeps_pair old steps new runs ∙ opened.pair_is) found.1.stand;
+        promised = promised_of law before old new steps shown found.0 opened.start same runs
+            found.1;
       }
 
-  pub keeps_promise : KeepsPromise pair before steps world
-  keeps_promise = record {
-    told = told_by new;
+  pub keeps_promise : {D : Type 0} {disk : Ghosts D} (world : World D disk) → IsWorld world new
+      → KeepsPromise pair before steps (told_by new) world
+  keeps_promise {D} {disk} world is = record {
     shows = shows_told world new is;
-    left = λ disks holds later may.
-        left_so disks (same_Some (disks_in is.running) disks
-        (sym (ap (option_map disks_in) is.there) ∙ holds)) later may;
+    left = λ disks holds. leave_promised disk.may_leave disks
+        (subst (λ d. AreLeft disk.may_leave d new)
+        (same_Some (disks_in is.running) disks (sym (ap (option_map disks_in) is.there) ∙ holds))
+        (world_left is.running new is.is.machines));
   }
+
+-- the exact run from what the disks showed
+pub is_run : {D : Type 0} (disk : Ghosts D) (pair : ℕ) (disks later : Disks D) (before : Stores)
+    (steps : List Step) (old new : ModelWorld) → RunsRecover → RunsKeepPromise
+    → IsOpenedFrom pair (shown_on disk.seen disks) old → stores_of old ≡ before
+    → Runs old steps new
+    → FailWithDisks old new (failures_on disk.failures disks) (failures_on disk.failures later)
+    → AreLeft disk.may_leave later new → IsRun disk pair disks later before steps new
+is_run disk pair disks later before steps old new recover law opened same runs counts left =
+    record {
+      old = old;
+      opened = opened;
+      stood_for = same;
+      runs = runs;
+      counts = counts;
+      left = left;
+      promised = leave_promised recover law pair before (shown_on disk.seen disks) old new steps
+          opened same runs disk.may_leave later left;
+    }
 
 -- What a world that was just opened holds
 
@@ -138,16 +154,13 @@ opened_holds {D} {disk} pair bytes now world opens =
         is.is.machines.right opens.opened.start.right.0.0
 
 -- and so the promise holds of what is opened after a run
-pub holds_as_promised : {D : Type 0} {disk : Ghosts D} → RunsKeepPromise → (pair : ℕ)
-    (disks later : Disks D) (before : Stores) (steps : List Step) (new : ModelWorld)
-    (world : World D disk) → IsSafeRun disk pair disks later before steps new
-    → Recovers later before steps new world → HoldsAsPromised pair before steps world
-holds_as_promised law pair disks later before steps new world run recovers = record {
-  pair_is = ap pair_by recovers.opens.is.there ∙ (recovers.opens.is.is.machines.pair
-      ∙ (recovers.opens.opened.pair_is ∙ run.pair_is));
-  told = told_by new;
-  now = recovers.safe.now;
-  promised = promised_of law before run.old new steps pair _ recovers.shown run.opened
-      run.stores_are run.runs recovers.safe;
-  holds = opened_holds new.pair recovers.shown recovers.safe.now world recovers.opens;
+pub holds_as_promised : {D : Type 0} {disk : Ghosts D} (pair : ℕ) (before : Stores)
+    (steps : List Step) (told : Told) (shown : DiskBytes)
+    → (found : StandAsPromised pair before steps told shown) → (world : World D disk)
+    → OpensFrom pair shown found.now world → HoldsAsPromised pair before steps told world
+holds_as_promised pair before steps told shown found world opens = record {
+  pair_is = ap pair_by opens.is.there ∙ (opens.is.is.machines.pair ∙ opens.opened.pair_is);
+  now = found.now;
+  promised = found.promised;
+  holds = opened_holds pair shown found.now world opens;
 }

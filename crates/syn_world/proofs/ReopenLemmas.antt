@@ -4,11 +4,11 @@ use Rattle.std.proofs.Common.{None, inl, inr, refl, sym, ap₂, subst, arith}
 use Rattle.std.specs.Prelude.{length}
 use Rattle.syn_agent.specs.declared.agent.Agent.{Agent}
 use Rattle.syn_disk.specs.declared.disk.Disk.{Ghosts}
-use Rattle.syn_headline.specs.Machine.{Halted, Down, IsBefore, after_calls, after_device, all_made}
-use Rattle.syn_headline.specs.Machine.{unarmed}
-use Rattle.syn_headline.specs.MachineSteps.{Does, Reopen, is_done, no_memory_to_reopen}
-use Rattle.syn_headline.specs.MachineSteps.{reopen_fails, reopen_is_cut, reopens, with_device}
-use Rattle.syn_headline.specs.SideMachine.{SideMachine, side_kind, side_layout, with_journal}
+use Rattle.syn_machine.specs.Machine.{Halted, Down, IsBefore, after_calls, after_device, all_made}
+use Rattle.syn_machine.specs.Machine.{unarmed}
+use Rattle.syn_machine.specs.MachineSteps.{Does, Reopen, is_done, no_memory_to_reopen}
+use Rattle.syn_machine.specs.MachineSteps.{reopen_fails, reopen_is_cut, reopens, with_device}
+use Rattle.syn_machine.specs.SideMachine.{SideMachine, side_kind, side_layout, with_journal}
 use Rattle.syn_journal.specs.Endings.{CountsFailures}
 use Rattle.syn_model.specs.History.{IsAllowed}
 use Rattle.syn_model.specs.Path.{Bytes}

@@ -1,14 +1,14 @@
 -- A call of a coordinator that takes an answer, and leaves its machine down.
 use Rattle.std.proofs.Common.{◌≡◌, ◌≢◌, ◌≤◌, ◌∙◌, ℕ, List, None, Option, Some, refl, sym}
 use Rattle.syn_disk.specs.declared.disk.Disk.{Ghosts}
-use Rattle.syn_headline.specs.Coordinator.{Advances, CoordinatorMachine, CoordinatorTakes, EndsFor}
-use Rattle.syn_headline.specs.Coordinator.{Exchange, Takes, Walk, ignores, no_call, takes}
-use Rattle.syn_headline.specs.Coordinator as walk
-use Rattle.syn_headline.specs.Machine.{Status, Down, unarmed}
-use Rattle.syn_headline.specs.Network.{Message, Which}
-use Rattle.syn_headline.specs.Planning.{Planned}
-use Rattle.syn_headline.specs.Session.{Running}
-use Rattle.syn_headline.specs.Side.{Reply}
+use Rattle.syn_machine.specs.Coordinator.{Advances, CoordinatorMachine, CoordinatorTakes, EndsFor}
+use Rattle.syn_machine.specs.Coordinator.{Exchange, Takes, Walk, ignores, no_call, takes}
+use Rattle.syn_machine.specs.Coordinator as walk
+use Rattle.syn_machine.specs.Machine.{Status, Down, unarmed}
+use Rattle.syn_machine.specs.Network.{Message, Which}
+use Rattle.syn_machine.specs.Planning.{Planned}
+use Rattle.syn_machine.specs.Session.{Running}
+use Rattle.syn_machine.specs.Side.{Reply}
 use Rattle.syn_world.specs.CoordinatorSteps.{CallIsStep, Settles, Unrefused, refuses_nothing}
 use Rattle.syn_world.specs.declared.coordinator.CoordinatorCall.{CoordinatorCall}
 use Rattle.syn_model.specs.Archive.{Kept}

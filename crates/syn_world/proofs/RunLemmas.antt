@@ -5,8 +5,8 @@ use Rattle.std.specs.Prelude.{map, option_map, slice_get}
 use Rattle.std.proofs.lemmas.Option.{slice_get-map}
 use Rattle.std.proofs.lemmas.List.{append_assoc}
 use Rattle.syn_disk.specs.declared.disk.Disk.{Ghosts}
-use Rattle.syn_headline.specs.Network.{Message as Sent}
-use Rattle.syn_headline.specs.World.{World as ModelWorld, Step, Steps, Runs}
+use Rattle.syn_machine.specs.Network.{Message as Sent}
+use Rattle.syn_runs.specs.World.{World as ModelWorld, Step, Steps, Runs}
 use Rattle.syn_world.specs.Failures.{Counts, FailWithDisks, failures_in}
 use Rattle.syn_world.specs.Runs.{Attempts, EndsWithin, HasMade, HasRun, HasTried, no_memory, steps}
 use Rattle.syn_world.specs.Worlds.{HasMachines, IsRunning, IsWorld, RunsMachines, StaysSo}

@@ -3,14 +3,14 @@ use Rattle.std.proofs.Common.{◌≡◌, ◌∙◌, ◌++◌, [], ℕ, List, Som
 use Rattle.std.proofs.lemmas.List.{append-nil}
 use Rattle.std.specs.Prelude.{IfSome, Result, slice_get}
 use Rattle.syn_disk.specs.declared.disk.Disk.{Ghosts}
-use Rattle.syn_headline.specs.Coordinator.{Call, CoordinatorMachine, CoordinatorTakes}
-use Rattle.syn_headline.specs.Coordinator.{CoordinatorTicks, no_call}
-use Rattle.syn_headline.specs.Network.{Answers, Which}
-use Rattle.syn_headline.specs.Side.{Reply}
-use Rattle.syn_headline.specs.World.{World as ModelWorld, CoordinatorDoes, Deliver, Delivers, Steps}
-use Rattle.syn_headline.specs.World.{Tick, Ticks, coordinator_does, coordinator_goes, ticks}
-use Rattle.syn_headline.specs.World.{to_coordinator}
-use Rattle.syn_headline.specs.World as model
+use Rattle.syn_machine.specs.Coordinator.{Call, CoordinatorMachine, CoordinatorTakes}
+use Rattle.syn_machine.specs.Coordinator.{CoordinatorTicks, no_call}
+use Rattle.syn_machine.specs.Network.{Answers, Which}
+use Rattle.syn_machine.specs.Side.{Reply}
+use Rattle.syn_runs.specs.World.{World as ModelWorld, CoordinatorDoes, Deliver, Delivers, Steps}
+use Rattle.syn_runs.specs.World.{Tick, Ticks, coordinator_does, coordinator_goes, ticks}
+use Rattle.syn_runs.specs.World.{to_coordinator}
+use Rattle.syn_runs.specs.World as model
 use Rattle.syn_world.specs.CoordinatorSteps.{CallIsStep, Unrefused}
 use Rattle.syn_world.specs.Coordinators.{CoordinatorStep, IsCoordinator, archive_disk}
 use Rattle.syn_world.specs.Outcomes.{Tells}

@@ -4,9 +4,9 @@ use Rattle.std.proofs.Common.{arith, inl, inr, false}
 use Rattle.std.specs.Prelude.{length}
 use Rattle.syn_agent.specs.declared.agent.Agent.{Agent}
 use Rattle.syn_disk.specs.declared.disk.Disk.{Ghosts}
-use Rattle.syn_headline.specs.Machine.{Status, Up, Halted, Down}
-use Rattle.syn_headline.specs.SideMachine.{SideMachine, staging_after}
-use Rattle.syn_headline.specs.Side.{Staging}
+use Rattle.syn_machine.specs.Machine.{Status, Up, Halted, Down}
+use Rattle.syn_machine.specs.SideMachine.{SideMachine, staging_after}
+use Rattle.syn_machine.specs.Side.{Staging}
 use Rattle.syn_world.specs.Sides.{CountsFrom, RunsAs, side_disk}
 use Rattle.syn_world.specs.declared.side.SideCall.{SideCall}
 use Rattle.syn_world.specs.declared.side.SideHost.TheVariants as host

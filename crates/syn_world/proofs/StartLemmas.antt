@@ -12,8 +12,8 @@ use Rattle.syn_archive.specs.declared.archive.Archive.{Archive}
 use Rattle.syn_disk.specs.Calls.{MakesAtLeast}
 use Rattle.syn_disk.specs.Stops.{Untouched}
 use Rattle.syn_disk.specs.declared.disk.Disk.{Ghosts}
-use Rattle.syn_headline.specs.Machine.{Up, Journaled, unarmed}
-use Rattle.syn_headline.specs.SideMachine.{SideMachine}
+use Rattle.syn_machine.specs.Machine.{Up, Journaled, unarmed}
+use Rattle.syn_machine.specs.SideMachine.{SideMachine}
 use Rattle.syn_world.specs.Starts.{CanStart, StartsCoordinator, StartsSide}
 use Rattle.syn_journal.specs.Calls.{IsFree}
 use Rattle.syn_journal.specs.Layout.{Value, bytes_left}

@@ -2,11 +2,11 @@
 use Rattle.std.proofs.Common.{◌≡◌, ◌∙◌, ◌++◌, [], ℕ, List, Some, ap, ap₂, refl, subst, sym}
 use Rattle.std.proofs.lemmas.List.{append-nil}
 use Rattle.std.specs.Prelude.{Option, slice_get}
-use Rattle.syn_headline.specs.Network.{Which, Left, Right, Message, Asks}
-use Rattle.syn_headline.specs.Side.{Reply, Request}
-use Rattle.syn_headline.specs.SideMachine.{SideMachine}
-use Rattle.syn_headline.specs.World.{World, Steps, Delivers, Deliver, SideDoes, says, set_side}
-use Rattle.syn_headline.specs.World.{side_does, side_goes, side_of, to_no_side, to_side}
+use Rattle.syn_machine.specs.Network.{Which, Left, Right, Message, Asks}
+use Rattle.syn_machine.specs.Side.{Reply, Request}
+use Rattle.syn_machine.specs.SideMachine.{SideMachine}
+use Rattle.syn_runs.specs.World.{World, Steps, Delivers, Deliver, SideDoes, says, set_side}
+use Rattle.syn_runs.specs.World.{side_does, side_goes, side_of, to_no_side, to_side}
 use Rattle.syn_world.specs.SideSteps.{Answers, SideStep, no_side, takes}
 use Rattle.syn_model.specs.Event.{Event}
 use Rattle.syn_model.specs.Refusal.{Refusal}

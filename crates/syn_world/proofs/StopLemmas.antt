@@ -1,7 +1,7 @@
 -- A stop of a machine after so many device calls, whichever kind it is of.
 use Rattle.std.proofs.Common.{◌≡◌, ◌≢◌, ℕ, zero, suc, [], refl}
-use Rattle.syn_headline.specs.Machine.{Down}
-use Rattle.syn_headline.specs.MachineSteps.{Does, Kind, Stop, arming, is_done, is_down, with_device}
+use Rattle.syn_machine.specs.Machine.{Down}
+use Rattle.syn_machine.specs.MachineSteps.{Does, Kind, Stop, arming, is_done, is_down, with_device}
 
 module _ {M A V W : Type 0} (kind : Kind M A V W) (machine : M) where
   pub stops_after : (calls : ℕ) → calls ≢ 0 → (kind.journal_of machine).status ≢ Down

@@ -2,9 +2,9 @@
 use Rattle.std.proofs.Common.{◌≡◌, [], List, Result, refl}
 use Rattle.std.proofs.lemmas.List.{append-nil}
 use Rattle.syn_disk.specs.declared.disk.Disk.{Ghosts}
-use Rattle.syn_headline.specs.Network.{Left, Message, Right}
-use Rattle.syn_headline.specs.SideMachine.{SideMachine}
-use Rattle.syn_headline.specs.World.{World as ModelWorld, set_side}
+use Rattle.syn_machine.specs.Network.{Left, Message, Right}
+use Rattle.syn_machine.specs.SideMachine.{SideMachine}
+use Rattle.syn_runs.specs.World.{World as ModelWorld, set_side}
 use Rattle.syn_world.specs.Outcomes.{Acknowledges, refused_in}
 use Rattle.syn_world.specs.Sides.{IsHost}
 use Rattle.syn_world.specs.declared.side.SideCall.{SideCall}

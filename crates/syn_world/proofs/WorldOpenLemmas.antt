@@ -2,12 +2,12 @@
 use Rattle.std.proofs.Common.{◌≡◌, ◌∙◌, ◌<◌, ℕ, [], None, Some, false, ap, arith, refl, subst, sym}
 use Rattle.std.specs.Prelude.{map}
 use Rattle.syn_disk.specs.declared.disk.Disk.{Ghosts}
-use Rattle.syn_headline.specs.Acknowledged.{Stores}
-use Rattle.syn_headline.specs.Runs.{stores_of}
-use Rattle.syn_headline.specs.Headline.{IsPair}
-use Rattle.syn_headline.specs.Network.{Which, Left, Right}
-use Rattle.syn_headline.specs.World.{World as ModelWorld, At, side_of}
-use Rattle.syn_headline.specs.World as worlds
+use Rattle.syn_runs.specs.Acknowledged.{Stores}
+use Rattle.syn_runs.specs.Runs.{stores_of}
+use Rattle.syn_runs.specs.Headline.{IsPair}
+use Rattle.syn_machine.specs.Network.{Which, Left, Right}
+use Rattle.syn_runs.specs.World.{World as ModelWorld, At, side_of}
+use Rattle.syn_runs.specs.World as worlds
 use Rattle.syn_world.specs.Starts.{CanStart, StartsCoordinator, StartsSide}
 use Rattle.syn_world.specs.declared.coordinator.CoordinatorHost.TheVariants as machine
 use Rattle.syn_world.specs.declared.side.SideHost.TheVariants as host

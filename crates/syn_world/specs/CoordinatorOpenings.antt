@@ -2,7 +2,7 @@
 use Rattle.std.specs.Prelude.{◌≡◌, ℕ, true, Option, None, option_map}
 use Rattle.syn_disk.specs.Arms.{is_stopped}
 use Rattle.syn_disk.specs.declared.disk.Disk.{Ghosts}
-use Rattle.syn_headline.specs.Coordinator.{Call, CoordinatorMachine, no_call}
+use Rattle.syn_machine.specs.Coordinator.{Call, CoordinatorMachine, no_call}
 use Rattle.syn_world.specs.CoordinatorSteps.{StopsAs}
 use Rattle.syn_world.specs.Coordinators.{CoordinatorStep, IsCoordinator, IsStep, archive_disk}
 use Rattle.syn_world.specs.Outcomes.{causes_in}

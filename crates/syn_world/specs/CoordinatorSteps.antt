@@ -2,8 +2,8 @@
 use Rattle.std.specs.Prelude.{◌≡◌, ℕ, true, List, [], map, None, IfSome, option_map}
 use Rattle.syn_disk.specs.Arms.{is_stopped}
 use Rattle.syn_disk.specs.declared.disk.Disk.{Ghosts}
-use Rattle.syn_headline.specs.Coordinator.{Call, CoordinatorMachine, no_call}
-use Rattle.syn_headline.specs.Machine.{Down, Status, unarmed}
+use Rattle.syn_machine.specs.Coordinator.{Call, CoordinatorMachine, no_call}
+use Rattle.syn_machine.specs.Machine.{Down, Status, unarmed}
 use Rattle.syn_world.specs.Coordinators.{CoordinatorStep, IsCoordinator, IsStep, archive_disk}
 use Rattle.syn_world.specs.Outcomes.{Tells, causes_in}
 use Rattle.syn_world.specs.declared.coordinator.CoordinatorCall.{CoordinatorCall}

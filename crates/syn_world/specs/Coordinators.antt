@@ -3,8 +3,8 @@ use Rattle.std.specs.Prelude.{ℕ, List}
 use Rattle.syn_coordinator.specs.Coordinators.{Stands, device_of}
 use Rattle.syn_coordinator.specs.Openings.{RestsWith}
 use Rattle.syn_disk.specs.declared.disk.Disk.{Ghosts}
-use Rattle.syn_headline.specs.Coordinator.{Call, CoordinatorMachine}
-use Rattle.syn_headline.specs.MachineSteps.{Effect}
+use Rattle.syn_machine.specs.Coordinator.{Call, CoordinatorMachine}
+use Rattle.syn_machine.specs.MachineSteps.{Effect}
 use Rattle.syn_world.specs.declared.coordinator.CoordinatorHost.{CoordinatorHost}
 use Rattle.syn_world.specs.declared.coordinator.CoordinatorHost.TheVariants as host
 use Rattle.syn_model.specs.Refusal.{Refusal}

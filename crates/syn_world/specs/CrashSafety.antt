@@ -1,19 +1,13 @@
 -- From the bytes of three disks before a run to whatever they may hold after it.
 use Rattle.std.specs.Prelude.{ℕ, ◌≡◌, List}
 use Rattle.syn_model.specs.Path.{Bytes}
-use Rattle.syn_model.specs.Refusal.{Refusal}
-use Rattle.syn_headline.specs.Network.{Which, Left, Right}
-use Rattle.syn_headline.specs.Acknowledged.{Stores, history_of, stores_after, Grown, ArchiveGrown}
-use Rattle.syn_headline.specs.World.{World, Step, Runs}
-use Rattle.syn_headline.specs.World as model
-use Rattle.syn_headline.specs.Picture.{Picture, side_of}
-use Rattle.syn_headline.specs.Runs.{stores_of, picture_of, IsStart}
-use Rattle.syn_headline.specs.Headline.{IsPair, IsRunFrom, EachReplacementIsLegal, RecoveredIsLegal}
-use Rattle.syn_headline.specs.Headline.{EachTokenOnce, EachEntryWasHeld, LogsPlans, Owes}
-use Rattle.syn_headline.specs.Headline.{CompleteSessionsSynchronize, CompleteSessionsReconcile}
-use Rattle.syn_headline.specs.Headline.{ReportsItsConflicts, CountsItsItems, CarriedIsMarked}
-use Rattle.syn_headline.specs.Headline.{HeldIsMarked, PreferenceLeavesOne}
-use Rattle.syn_headline.specs.Reported.{EachReportTells}
+use Rattle.syn_machine.specs.Network.{Which, Left, Right}
+use Rattle.syn_runs.specs.Acknowledged.{Stores, history_of, stores_after, Grown, ArchiveGrown}
+use Rattle.syn_runs.specs.World.{World, Step, Runs}
+use Rattle.syn_runs.specs.World as model
+use Rattle.syn_runs.specs.Picture.{Picture, side_of}
+use Rattle.syn_runs.specs.Runs.{stores_of, picture_of, IsStart}
+use Rattle.syn_runs.specs.Headline.{IsPair}
 use Rattle.syn_journal.specs.Meaning.{IsDiskOf, IsOf, MayBeOf}
 use Rattle.syn_archive.specs.Keepings.{of_archive}
 use Rattle.syn_replica.specs.Keepings.{of_side}
@@ -69,31 +63,13 @@ pub record IsRecovered (before : Stores) (world : Picture) (disks : DiskBytes)
   pub archive : ArchiveGrown world.coordinator.writing
       (stores_after before world.acknowledged).archive now.archive
 
--- What is promised of a run by these steps, in which users were refused so, by the picture of its
--- world, with one content that its disks may have after it
-pub record IsCrashSafe (before : Stores) (steps : List Step) (told : List Refusal)
-    (world : Picture) (disks : DiskBytes) : Type 0 where
-  pub now : Stores
-  pub pictured : IsRunFrom before steps told world
-  pub recovered : IsRecovered before world disks now
-  pub replaced : EachReplacementIsLegal before world
-  pub given_back : RecoveredIsLegal before world
-  pub once : EachTokenOnce before world
-  pub archived : EachEntryWasHeld before world
-  pub planned : LogsPlans before world
-  pub owes : Owes before world
-  pub synchronized : CompleteSessionsSynchronize before world
-  pub reconciled : CompleteSessionsReconcile before world
-  pub preferred : PreferenceLeavesOne before world
-  pub conflicts : ReportsItsConflicts before world
-  pub counts : CountsItsItems before world
-  pub carried : CarriedIsMarked before world
-  pub held : HeldIsMarked before world
-  pub reported : EachReportTells before world
-
 -- For every list of steps from three disks, with stops and failing devices at any call of any
 -- machine
-abbrev pub RunsAreCrashSafe : Type 0
-RunsAreCrashSafe = (pair : ℕ) (disks later : DiskBytes) (old new : World) (steps : List Step) →
+abbrev pub RunsRecover : Type 0
+RunsRecover = (pair : ℕ) (disks later : DiskBytes) (old new : World) (steps : List Step) →
     IsOpenedFrom pair disks old → Runs old steps new → MayBeLeft later new →
-    IsCrashSafe (stores_of old) steps new.refusals (picture_of new) later
+    (now : Stores) × IsRecovered (stores_of old) (picture_of new) later now
+
+-- a run is of one pair
+abbrev pub RunsKeepPair : Type 0
+RunsKeepPair = (old new : World) (steps : List Step) → Runs old steps new → new.pair ≡ old.pair

@@ -1,8 +1,8 @@
 -- How many device calls failed: of each machine of the model, and of its disk.
 use Rattle.std.specs.Prelude.{◌≡◌, ◌+◌, ◌≤◌, ℕ, Err, Ok, Result}
 use Rattle.syn_disk.specs.declared.disk.Disk.{Ghosts}
-use Rattle.syn_headline.specs.Network.{Left, Right}
-use Rattle.syn_headline.specs.World.{World as ModelWorld, At, Coordinator, Machine, failures_of}
+use Rattle.syn_machine.specs.Network.{Left, Right}
+use Rattle.syn_runs.specs.World.{World as ModelWorld, At, Coordinator, Machine, failures_of}
 use Rattle.syn_world.specs.Coordinators.{archive_disk}
 use Rattle.syn_world.specs.Sides.{side_disk}
 use Rattle.syn_world.specs.declared.running.Running.{Running}

@@ -3,9 +3,9 @@ use Rattle.std.specs.Prelude.{◌≡◌, ◌+◌, ◌<◌, ◌^◌, ℕ, None, S
 use Rattle.syn_disk.specs.Arms.{Arms}
 use Rattle.syn_disk.specs.Disk.{NothingNew}
 use Rattle.syn_disk.specs.declared.disk.Disk.{Ghosts}
-use Rattle.syn_headline.specs.Acknowledged.{Stores}
-use Rattle.syn_headline.specs.Runs.{stores_of}
-use Rattle.syn_headline.specs.World.{World as ModelWorld}
+use Rattle.syn_runs.specs.Acknowledged.{Stores}
+use Rattle.syn_runs.specs.Runs.{stores_of}
+use Rattle.syn_runs.specs.World.{World as ModelWorld}
 use Rattle.syn_world.specs.Starts.{HoldsArchive, HoldsReplica, RefusesArchive, RefusesSide}
 use Rattle.syn_journal.specs.Calls.{IsFree}
 use Rattle.syn_model.specs.Path.{Bytes}
@@ -24,6 +24,13 @@ shown_on seen disks = record {
   right = seen disks.right;
   archive = seen disks.archive;
 }
+
+-- a stop may now leave these bytes on the disks
+pub record MayHold {D : Type 0} (may_leave : D → Bytes → Type 0) (disks : Disks D)
+    (shown : DiskBytes) : Type 0 where
+  pub left : may_leave disks.left shown.left
+  pub right : may_leave disks.right shown.right
+  pub archive : may_leave disks.archive shown.archive
 
 -- Three disks of a pair, and what they stand for. None of them was stopped, and nothing is armed at
 -- them

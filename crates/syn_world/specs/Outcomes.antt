@@ -1,7 +1,7 @@
 -- What came of a step, as the lists of the world have it.
 use Rattle.std.specs.Global.{Vec}
 use Rattle.std.specs.Prelude.{◌≡◌, List, [], ◌∷◌, Option, Some, None, IfSome, map, option_map}
-use Rattle.syn_headline.specs.Coordinator.{Call}
+use Rattle.syn_machine.specs.Coordinator.{Call}
 use Rattle.syn_world.specs.declared.outcome.CoordinatorOutcome.{CoordinatorOutcome}
 use Rattle.syn_world.specs.declared.outcome.SideOutcome.{SideOutcome}
 use Rattle.syn_world.specs.declared.outcome.SideOutcome.TheVariants.{Nothing, Acknowledged, Refused}

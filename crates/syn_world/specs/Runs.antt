@@ -1,7 +1,7 @@
 -- How a world goes by a list of steps.
 use Rattle.std.specs.Prelude.{◌≡◌, ◌⊎◌, ◌++◌, List, Result, Ok, Err}
 use Rattle.syn_disk.specs.declared.disk.Disk.{Ghosts}
-use Rattle.syn_headline.specs.World.{World as ModelWorld, Step, Steps, Runs}
+use Rattle.syn_runs.specs.World.{World as ModelWorld, Step, Steps, Runs}
 use Rattle.syn_world.specs.Failures.{Counts, FailWithDisks, failures_in}
 use Rattle.syn_world.specs.Worlds.{GoesSo, HasMachines, IsWorld, RunsMachines}
 use Rattle.syn_world.specs.declared.running.Running.{Running}

@@ -1,9 +1,9 @@
 -- A request that a side's machine takes, and what else a step of it is.
 use Rattle.std.specs.Prelude.{◌≡◌, ℕ, List, [], Option, None}
-use Rattle.syn_headline.specs.Machine.{Down, Journaled}
-use Rattle.syn_headline.specs.MachineSteps.{Effect}
-use Rattle.syn_headline.specs.Side.{Request, Reply}
-use Rattle.syn_headline.specs.SideMachine.{SideMachine, SideTakes}
+use Rattle.syn_machine.specs.Machine.{Down, Journaled}
+use Rattle.syn_machine.specs.MachineSteps.{Effect}
+use Rattle.syn_machine.specs.Side.{Request, Reply}
+use Rattle.syn_machine.specs.SideMachine.{SideMachine, SideTakes}
 use Rattle.syn_model.specs.Event.{Event}
 use Rattle.syn_model.specs.History.{History}
 use Rattle.syn_model.specs.Refusal.{Refusal}

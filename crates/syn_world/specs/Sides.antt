@@ -4,9 +4,9 @@ use Rattle.std.specs.Prelude.{IfSome, None, length, option_map}
 use Rattle.syn_agent.specs.Machines.{IsOf}
 use Rattle.syn_disk.specs.Arms.{Arms, is_stopped}
 use Rattle.syn_disk.specs.declared.disk.Disk.{Ghosts}
-use Rattle.syn_headline.specs.Machine.{Up, Down, unarmed}
-use Rattle.syn_headline.specs.Side.{Request}
-use Rattle.syn_headline.specs.SideMachine.{SideMachine}
+use Rattle.syn_machine.specs.Machine.{Up, Down, unarmed}
+use Rattle.syn_machine.specs.Side.{Request}
+use Rattle.syn_machine.specs.SideMachine.{SideMachine}
 use Rattle.syn_world.specs.Outcomes.{Acknowledges, refused_in}
 use Rattle.syn_world.specs.SideSteps.{Answers, SideStep}
 use Rattle.syn_world.specs.declared.outcome.SideOutcome.{SideOutcome}

@@ -6,8 +6,8 @@ use Rattle.syn_archive.specs.Refusals as archives
 use Rattle.syn_archive.specs.declared.error.ArchiveError.{ArchiveError}
 use Rattle.syn_disk.specs.Arms.{Arms}
 use Rattle.syn_disk.specs.declared.disk.Disk.{Ghosts}
-use Rattle.syn_headline.specs.Runs.{IsJustOpened}
-use Rattle.syn_headline.specs.SideMachine.{SideMachine}
+use Rattle.syn_runs.specs.Runs.{IsJustOpened}
+use Rattle.syn_machine.specs.SideMachine.{SideMachine}
 use Rattle.syn_world.specs.Sides.{RunsAs}
 use Rattle.syn_world.specs.declared.side.UpSide.{UpSide}
 use Rattle.syn_model.specs.Archive.{Archive}

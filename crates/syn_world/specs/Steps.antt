@@ -1,6 +1,6 @@
 -- Which of the model's steps a step is.
 use Rattle.std.specs.Prelude.{option_map}
-use Rattle.syn_headline.specs.World as model
+use Rattle.syn_runs.specs.World as model
 use Rattle.syn_path.specs.Sides.{which_of}
 use Rattle.syn_world.specs.declared.machine.Machine.{Machine}
 use Rattle.syn_world.specs.declared.machine.Machine.TheVariants as machine

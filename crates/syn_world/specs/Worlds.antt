@@ -3,12 +3,12 @@ use Rattle.std.specs.Prelude.{◌≡◌, ◌++◌, ℕ, List, length, map, All, 
 use Rattle.std.specs.Prelude.{[], Bool, Option, None, Some, false, option_map}
 use Rattle.syn_archive.specs.declared.archive.Archive.{Archive}
 use Rattle.syn_disk.specs.declared.disk.Disk.{Ghosts}
-use Rattle.syn_headline.specs.Acknowledged as model
-use Rattle.syn_headline.specs.Acknowledged.{Happened, Kept_by}
-use Rattle.syn_headline.specs.Coordinator.{Call}
-use Rattle.syn_headline.specs.Network.{Which, Answers, Asks, Message as Sent}
-use Rattle.syn_headline.specs.Report.{Report as Reported}
-use Rattle.syn_headline.specs.World.{World as ModelWorld, Step, Steps, says}
+use Rattle.syn_runs.specs.Acknowledged as model
+use Rattle.syn_runs.specs.Acknowledged.{Happened, Kept_by}
+use Rattle.syn_machine.specs.Coordinator.{Call}
+use Rattle.syn_machine.specs.Network.{Which, Answers, Asks, Message as Sent}
+use Rattle.syn_machine.specs.Report.{Report as Reported}
+use Rattle.syn_runs.specs.World.{World as ModelWorld, Step, Steps, says}
 use Rattle.syn_world.specs.Coordinators.{IsCoordinator}
 use Rattle.syn_world.specs.Outcomes.{Acknowledges, causes_in, refused_in}
 use Rattle.syn_world.specs.Sides.{IsHost, replica_of}

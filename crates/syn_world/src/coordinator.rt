@@ -2,8 +2,8 @@
 ghost use Rattle.std.specs.Prelude.{◌≡◌, ◌≢◌, [], ℕ, List, IfSome, false, true};
 ghost use Rattle.syn_disk.specs.Armed.{armed};
 ghost use Rattle.syn_disk.specs.Arms.{is_stopped};
-ghost use Rattle.syn_headline.specs.Coordinator.{CoordinatorMachine, coordinator_kind, no_call};
-ghost use Rattle.syn_headline.specs.MachineSteps.{Checkpoint, Does, Fail, Stop, refused_by};
+ghost use Rattle.syn_machine.specs.Coordinator.{CoordinatorMachine, coordinator_kind, no_call};
+ghost use Rattle.syn_machine.specs.MachineSteps.{Checkpoint, Does, Fail, Stop, refused_by};
 ghost use Rattle.syn_world.specs.CoordinatorSteps.{CallIsStep, Settles};
 ghost use Rattle.syn_world.specs.Outcomes.{TellsRefused};
 ghost use Rattle.syn_journal.specs.Calls.{armed_at};

@@ -1,13 +1,14 @@
-//! What the sentences of all runs say of the bytes of three disks.
+//! What the laws of all runs say of the bytes of three disks.
 
-ghost use Rattle.syn_world.specs.CrashSafety.{DisksAreStart, RunsAreCrashSafe};
+ghost use Rattle.syn_world.specs.CrashSafety.{DisksAreStart, RunsKeepPair, RunsRecover};
 
-/// Three disks of a pair are a start, and a run from them is crash safe, whatever the disks then
-/// hold.
-pub(crate) fn crash_safety_laws()
+/// Three disks of a pair are a start. Whatever they may hold after a run from them stands for what
+/// the run acknowledged, with at most the one change that each machine was making, and is a start
+/// again.
+pub fn disk_laws()
     ensures start { DisksAreStart }
-    ensures crash_safe { RunsAreCrashSafe }
+    ensures recovered { RunsRecover }
+    ensures pair { RunsKeepPair }
 {
-    syn_headline::run_laws();
-    syn_headline::session_laws();
+    syn_runs::run_laws();
 }

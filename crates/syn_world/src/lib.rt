@@ -29,26 +29,27 @@
 //! - Of any disks: what it opens is of one pair (`pair`), and a refusal has the cause of the first
 //!   disk that is refused (`cause`: `RefusesDisks`). The disks count more failed calls than before
 //!   exactly where it is refused 9, and each as many where it succeeds (`failures`).
-//! - `run`, `run_and_recover` and the world itself keep the promise of a run, which is one record
+//! - `run`, `recover` and the world itself keep the promise of a run, which is one record
 //!   (`Promised` of `syn_promise`). After `run` it is of what the world shows, and of whatever a
-//!   stop may then leave on its disks (`KeepsPromise`). After `run_and_recover` it is of what the
-//!   world that was opened holds (`HoldsAsPromised`). `World::promise` says it of a world that went
-//!   by steps of its caller. The clauses that follow say more of the run, and are what is composed.
-//! - `run` opens such a world and goes by the steps (`RunsSafely`): whatever a stop may leave on
-//!   the disks after them is crash safe (`AreSafe`). The disks come back where nothing was opened
-//!   (`IsNotOpened`), or after a first part of the steps where memory was refused (`IsCutShort`).
-//!   Of any disks: those of no pair come back (`back`).
-//! - What makes a run crash safe is said of the bytes of three disks (`CrashSafety.antt`). Those of
-//!   a pair are a start of a run (`DisksAreStart`), and a run from them is crash safe
-//!   (`RunsAreCrashSafe`). What the code owes for that beside its steps is one invariant,
-//!   `MayBeLeft`: whatever a stop may leave on the three disks may be of their machines then. It
-//!   rests on what a replica and an archive say of any moment of a call: what is kept, the bytes
-//!   that are left and the generation.
-//! - `recover` opens the disks of a safe run, as a stop might have left them (`Recovers`). Of any
-//!   disks it says `pair`, `cause` and `failures`, as `World::open` does.
-//! - `run_and_recover` runs, stops all machines and opens what their disks hold
-//!   (`RunsAndRecovers`). It is refused 9 or 11 alone, and the disks come back then as a first part
-//!   of the steps left them (`EndsSafely`). A 9 says that a call of a disk failed (`failures`).
+//!   stop may then leave on its disks (`KeepsPromise`); where memory was refused in between, of the
+//!   steps until then (`KeepPart`). `into_disks` hands this on to the disks (`LeavePromised`), and
+//!   `recover` says it of what a world holds that was opened from them (`HoldsAsPromised`).
+//!   `World::promise` says it of a world that went by steps of its caller.
+//! - Beside the promise stands the exact run (`IsRun`): the world was opened from the disks, went
+//!   by the steps of the definitions, and is this one. The laws of runs (`run_laws` and
+//!   `session_laws` of `syn_runs`, `promise` of `syn_promise`, `disk_laws`) say of it what the
+//!   promise does not. `run` makes one (`RunsFrom`), or the disks come back where nothing was
+//!   opened (`IsNotOpened`), or after a first part of the steps where memory was refused
+//!   (`IsCutShort`). Of any disks: those of no pair come back (`back`).
+//! - What the laws say of the bytes of three disks stands in `CrashSafety.antt`. Those of a pair
+//!   are a start of a run (`DisksAreStart`). What the code owes beside its steps is one invariant,
+//!   `MayBeLeft`: whatever a stop may leave on the three disks may be of their machines then. So
+//!   it stands for what was acknowledged, with the change that each machine was making, or without
+//!   it (`RunsRecover`). The invariant rests on what a replica and an archive say of any moment of
+//!   a call: what is kept, the bytes that are left and the generation.
+//! - `recover` opens a world from what a stop might have left on the disks, whatever that stands
+//!   for (`OpensAgain`). Of any disks it says `pair`, `cause` and `failures`, as `World::open`
+//!   does.
 //!
 //! # One machine
 //!
@@ -104,7 +105,8 @@ pub use coordinator::{
     CoordinatorCall, CoordinatorHost, CoordinatorOpening, DownCoordinator, start_coordinator,
 };
 pub use disk::SimulatedDisk;
-pub use headline::{recover, run, run_and_recover};
+pub use headline::{recover, run};
+pub use laws::disk_laws;
 pub use lists::{Ack, Message};
 pub use machine::Machine;
 pub use outcome::{CoordinatorOutcome, SideOutcome};

@@ -1,6 +1,6 @@
 //! A world is opened from its three disks.
 ghost use Rattle.std.specs.Prelude.{◌≡◌, ℕ, [], IfErr, IfOk, MatchResult};
-ghost use Rattle.syn_headline.specs.Acknowledged.{Stores};
+ghost use Rattle.syn_runs.specs.Acknowledged.{Stores};
 ghost use Rattle.syn_world.specs.Starts.{CountsFailure, IsFromOutside};
 ghost use Rattle.syn_world.specs.Openings.{AreOfPair, ComeBack, CountsAsOpened, OpensFrom};
 ghost use Rattle.syn_world.specs.Openings.{RefusesDisks, StandFor, failed_calls, shown_on};

@@ -1,12 +1,13 @@
 //! What is promised of the run of a world.
 ghost use Rattle.std.specs.Prelude.{◌≡◌, ℕ, List};
-ghost use Rattle.syn_headline.specs.Acknowledged.{Stores};
-ghost use Rattle.syn_headline.specs.Runs.{stores_of};
-ghost use Rattle.syn_headline.specs.World.{World as ModelWorld, Runs, Step as ModelStep};
+ghost use Rattle.syn_promise.specs.Laws.{told_by};
+ghost use Rattle.syn_runs.specs.Acknowledged.{Stores};
+ghost use Rattle.syn_runs.specs.Runs.{stores_of};
+ghost use Rattle.syn_runs.specs.World.{World as ModelWorld, Runs, Step as ModelStep};
 ghost use Rattle.syn_world.specs.CrashSafety.{DiskBytes, IsOpenedFrom};
 
 use crate::SimulatedDisk;
-use crate::laws::crash_safety_laws;
+use crate::laws::disk_laws;
 use crate::world::World;
 
 impl<D: SimulatedDisk> World<D> {
@@ -18,9 +19,10 @@ impl<D: SimulatedDisk> World<D> {
     pub fn promise(&self)
         ensures kept { (pair : ℕ) (before : Stores) (bytes : DiskBytes) (old new : ModelWorld)
             (steps : List ModelStep) → IsOpenedFrom pair bytes old → stores_of old ≡ before
-            → Runs old steps new → IsWorld self.now new → KeepsPromise pair before steps self.now }
+            → Runs old steps new → IsWorld self.now new
+            → KeepsPromise pair before steps (told_by new) self.now }
     {
-        crash_safety_laws();
+        disk_laws();
         syn_promise::promise();
     }
 }

@@ -1,7 +1,7 @@
 //! The machines of a world that runs, with its lists, and each kind of step.
 ghost use Rattle.std.specs.Prelude.{◌≡◌, [], IfSome, List, option_map};
-ghost use Rattle.syn_headline.specs.Coordinator.{Call};
-ghost use Rattle.syn_headline.specs.World.{World as ModelWorld, says};
+ghost use Rattle.syn_machine.specs.Coordinator.{Call};
+ghost use Rattle.syn_runs.specs.World.{World as ModelWorld, says};
 ghost use Rattle.syn_message.specs.Replies.{IsLawfulReply, reply_of};
 ghost use Rattle.syn_path.specs.Sides.{which_of};
 ghost use Rattle.syn_model.specs.Event.{Event};

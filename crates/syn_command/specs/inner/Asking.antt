@@ -1,6 +1,6 @@
 -- How far the scan of a side has come.
 use Rattle.std.specs.Prelude.{◌≡◌, []}
-use Rattle.syn_headline.specs.Network.{Which}
+use Rattle.syn_machine.specs.Network.{Which}
 use Rattle.syn_command.specs.Listings.{GaveReplies, Replies, exchanges_of}
 use Rattle.syn_session.specs.Scanning.{IsFoundIn, found_of, out_of}
 use Rattle.syn_session.specs.declared.side_scan.SideScan.{SideScan}

@@ -10,10 +10,10 @@ use Rattle.syn_coordinator.specs.declared.session_end.SessionEnd.TheVariants.{Ea
 use Rattle.syn_coordinator.specs.declared.session_end.SessionEnd.TheVariants.{PlanDone}
 use Rattle.syn_disk.specs.Arms.{is_stopped}
 use Rattle.syn_disk.specs.declared.disk.Disk.{Ghosts}
-use Rattle.syn_headline.specs.Coordinator.{Advances, EndsFor, Exchange, Running, Walk, past}
-use Rattle.syn_headline.specs.Coordinator.{plan_of, refusing}
-use Rattle.syn_headline.specs.Machine.{Down, Halted, Status, Up}
-use Rattle.syn_headline.specs.Planning.{Planned}
+use Rattle.syn_machine.specs.Coordinator.{Advances, EndsFor, Exchange, Running, Walk, past}
+use Rattle.syn_machine.specs.Coordinator.{plan_of, refusing}
+use Rattle.syn_machine.specs.Machine.{Down, Halted, Status, Up}
+use Rattle.syn_machine.specs.Planning.{Planned}
 use Rattle.syn_coordinator.specs.Machines.{IsMachine, Journal, LeavesMachine}
 use Rattle.syn_coordinator.specs.Tries.{Tries}
 use Rattle.syn_coordinator.specs.declared.due.RecordOutcome.{RecordOutcome}

@@ -5,10 +5,10 @@ use Rattle.syn_coordinator.specs.Coordinators.{tried_shown}
 use Rattle.syn_coordinator.specs.declared.coordinator.Coordinator.{Coordinator}
 use Rattle.syn_disk.specs.Arms.{is_stopped}
 use Rattle.syn_disk.specs.declared.disk.Disk.{Ghosts}
-use Rattle.syn_headline.specs.Coordinator.{Call, CoordinatorMachine, Exchange, Running, Takes}
-use Rattle.syn_headline.specs.Machine.{Down}
-use Rattle.syn_headline.specs.Network.{Message}
-use Rattle.syn_headline.specs.Report.{Report}
+use Rattle.syn_machine.specs.Coordinator.{Call, CoordinatorMachine, Exchange, Running, Takes}
+use Rattle.syn_machine.specs.Machine.{Down}
+use Rattle.syn_machine.specs.Network.{Message}
+use Rattle.syn_machine.specs.Report.{Report}
 use Rattle.syn_coordinator.specs.Machines.{LeavesMachine}
 use Rattle.syn_coordinator.specs.Tries.{Tries}
 use Rattle.syn_model.specs.Archive.{Kept}

@@ -7,8 +7,8 @@ use Rattle.syn_coordinator.specs.declared.session_end.SessionEnd.{SessionEnd}
 use Rattle.syn_coordinator.specs.declared.session_end.SessionEnd.TheVariants.{Early}
 use Rattle.syn_coordinator.specs.inner.Settling.{AsksSo, EndsSo, IsQuiet}
 use Rattle.syn_disk.specs.declared.disk.Disk.{Ghosts}
-use Rattle.syn_headline.specs.Coordinator.{Exchange, fault_of, is_last}
-use Rattle.syn_headline.specs.Planning.{Planned}
+use Rattle.syn_machine.specs.Coordinator.{Exchange, fault_of, is_last}
+use Rattle.syn_machine.specs.Planning.{Planned}
 use Rattle.syn_coordinator.specs.Machines.{IsMachine, Journal}
 use Rattle.syn_model.specs.Refusal.{Memory}
 use Rattle.syn_refusal.specs.Refusals.{cause_of}

@@ -7,8 +7,8 @@ use Rattle.syn_archive.specs.declared.archive.Archive.{Archive}
 use Rattle.syn_archive.specs.declared.error.ArchiveError.{ArchiveError}
 use Rattle.syn_archive.specs.declared.error.ArchiveError.TheVariants as error
 use Rattle.syn_disk.specs.declared.disk.Disk.{Ghosts}
-use Rattle.syn_headline.specs.Coordinator.{archive_layout}
-use Rattle.syn_headline.specs.Machine.{Compacts, Halted, Up, has_room}
+use Rattle.syn_machine.specs.Coordinator.{archive_layout}
+use Rattle.syn_machine.specs.Machine.{Compacts, Halted, Up, has_room}
 use Rattle.syn_coordinator.specs.Machines.{IsMachine, Journal}
 use Rattle.syn_coordinator.specs.RecordOutcome.{CountsFailures, IsAsItWas, IsReady}
 use Rattle.syn_coordinator.specs.Steps.{CompactsSo, KeepsSo}

@@ -10,10 +10,10 @@ use Rattle.syn_coordinator.specs.inner.Advancing.{Remembers}
 use Rattle.syn_coordinator.specs.inner.Walking.{ended_by, walk_at}
 use Rattle.syn_disk.specs.Arms.{is_stopped}
 use Rattle.syn_disk.specs.declared.disk.Disk.{Ghosts}
-use Rattle.syn_headline.specs.Coordinator.{Advances, EndsFor, Exchange, HasPlan, Running, Walk}
-use Rattle.syn_headline.specs.Coordinator.{fault_of, hearing, is_last}
-use Rattle.syn_headline.specs.Machine.{Down}
-use Rattle.syn_headline.specs.Planning.{Log}
+use Rattle.syn_machine.specs.Coordinator.{Advances, EndsFor, Exchange, HasPlan, Running, Walk}
+use Rattle.syn_machine.specs.Coordinator.{fault_of, hearing, is_last}
+use Rattle.syn_machine.specs.Machine.{Down}
+use Rattle.syn_machine.specs.Planning.{Log}
 use Rattle.syn_coordinator.specs.Machines.{IsMachine, Journal, LeavesMachine}
 use Rattle.syn_coordinator.specs.Tries.{Tries}
 use Rattle.syn_coordinator.specs.declared.tried.TriedRecord.{TriedRecord}

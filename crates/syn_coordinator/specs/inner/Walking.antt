@@ -8,8 +8,8 @@ use Rattle.syn_coordinator.specs.inner.Advancing.{Remembers}
 pub use Rattle.syn_coordinator.specs.inner.Advancing.{ended_by}
 use Rattle.syn_disk.specs.Arms.{is_stopped}
 use Rattle.syn_disk.specs.declared.disk.Disk.{Ghosts}
-use Rattle.syn_headline.specs.Coordinator.{Advances, EndsFor, Exchange, Running, Walk}
-use Rattle.syn_headline.specs.Machine.{Down}
+use Rattle.syn_machine.specs.Coordinator.{Advances, EndsFor, Exchange, Running, Walk}
+use Rattle.syn_machine.specs.Machine.{Down}
 use Rattle.syn_coordinator.specs.Machines.{IsMachine, Journal, LeavesMachine}
 use Rattle.syn_coordinator.specs.Tries.{Tries}
 use Rattle.syn_coordinator.specs.declared.tried.TriedRecord.{TriedRecord}

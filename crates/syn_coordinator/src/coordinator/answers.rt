@@ -1,6 +1,6 @@
 //! The answers that come to a coordinator.
 ghost use Rattle.std.specs.Prelude.{◌≡◌, ◌⊎◌, ℕ, false, true};
-ghost use Rattle.syn_headline.specs.Coordinator.{CoordinatorMachine, CoordinatorTakes};
+ghost use Rattle.syn_machine.specs.Coordinator.{CoordinatorMachine, CoordinatorTakes};
 ghost use Rattle.syn_message.specs.Replies.{IsLawfulReply, reply_of};
 ghost use Rattle.syn_path.specs.Sides.{which_of};
 ghost use Rattle.syn_session.specs.Sendings.{messages_of};

@@ -3,7 +3,7 @@ ghost use Rattle.std.specs.Prelude.{IfErr, IfOk, MatchResult, None, Some, option
 ghost use Rattle.syn_archive.specs.Refusals.{refusal_of};
 ghost use Rattle.syn_coordinator.specs.Coordinators.{device_of};
 ghost use Rattle.syn_coordinator.specs.Openings.{OpensAs, RestsStill, RestsWith};
-ghost use Rattle.syn_headline.specs.Coordinator.{CoordinatorMachine};
+ghost use Rattle.syn_machine.specs.Coordinator.{CoordinatorMachine};
 ghost use Rattle.syn_journal.specs.Endings.{CountsFailures};
 ghost use Rattle.syn_coordinator.specs.Tries.{listed};
 ghost use Rattle.syn_image.specs.Archives.{kept_of};

@@ -1,6 +1,6 @@
 //! What became so far of the items of a coordinator's session.
 ghost use Rattle.std.specs.Prelude.{◌≡◌, ℕ};
-ghost use Rattle.syn_headline.specs.Coordinator.{CoordinatorMachine};
+ghost use Rattle.syn_machine.specs.Coordinator.{CoordinatorMachine};
 ghost use Rattle.syn_session.specs.SettledItems.{settled_by};
 
 use super::Coordinator;

@@ -1,8 +1,8 @@
 //! How a session goes on after an answer for the item that is carried.
 ghost use Rattle.std.specs.Prelude.{◌≡◌, ℕ, List, MatchResult};
-ghost use Rattle.syn_headline.specs.Coordinator.{Exchange, IsDue, IsFor};
-ghost use Rattle.syn_headline.specs.Network.{Which};
-ghost use Rattle.syn_headline.specs.Side.{Request as Asked, Refused};
+ghost use Rattle.syn_machine.specs.Coordinator.{Exchange, IsDue, IsFor};
+ghost use Rattle.syn_machine.specs.Network.{Which};
+ghost use Rattle.syn_machine.specs.Side.{Request as Asked, Refused};
 ghost use Rattle.syn_coordinator.specs.Machines.{IsMachine, Journal};
 ghost use Rattle.syn_message.specs.Replies.{reply_of};
 ghost use Rattle.syn_propagate.specs.Transfers.{WaitsFor};

@@ -2,8 +2,8 @@
 ghost use Rattle.std.specs.Prelude.{◌≡◌, [], ℕ, None};
 ghost use Rattle.syn_coordinator.specs.inner.Taking.{TakesSo};
 ghost use Rattle.syn_coordinator.specs.Machines.{IsMachine, Journal};
-ghost use Rattle.syn_headline.specs.Coordinator.{Exchange, Running, hearing};
-ghost use Rattle.syn_headline.specs.Session.{fault_of};
+ghost use Rattle.syn_machine.specs.Coordinator.{Exchange, Running, hearing};
+ghost use Rattle.syn_machine.specs.Session.{fault_of};
 ghost use Rattle.syn_message.specs.Replies.{IsLawfulReply, reply_of};
 ghost use Rattle.syn_message.specs.Requests.{request_of};
 ghost use Rattle.syn_path.specs.Sides.{which_of};

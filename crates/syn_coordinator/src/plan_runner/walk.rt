@@ -2,9 +2,9 @@
 ghost use Rattle.std.specs.Prelude.{◌≡◌, ℕ, List, MatchResult, None, Some, slice_get};
 ghost use Rattle.std.specs.Prelude.{IfErr, IfOk, MatchOption, OnErr};
 ghost use Rattle.syn_coordinator.specs.inner.Walking.{IsAtItem};
-ghost use Rattle.syn_headline.specs.Coordinator.{Exchange, IsDue};
-ghost use Rattle.syn_headline.specs.Planning.{Planned};
-ghost use Rattle.syn_headline.specs.Session.{record_for};
+ghost use Rattle.syn_machine.specs.Coordinator.{Exchange, IsDue};
+ghost use Rattle.syn_machine.specs.Planning.{Planned};
+ghost use Rattle.syn_machine.specs.Session.{record_for};
 ghost use Rattle.syn_model.specs.Archive.{Archive as Keeping};
 ghost use Rattle.syn_coordinator.specs.Machines.{IsMachine, Journal};
 ghost use Rattle.syn_propagate.specs.Transfers.{IsReady, spec_of};

@@ -3,7 +3,7 @@ use Rattle.std.specs.Prelude.{◌≡◌, ℕ, false, IfErr, OnOk, Result, Option
 use Rattle.syn_daemon.specs.Sessions.{DrivesSession, RefusesRun}
 use Rattle.syn_disk.specs.Arms.{is_stopped}
 use Rattle.syn_disk.specs.declared.disk.Disk.{Ghosts}
-use Rattle.syn_headline.specs.Coordinator.{CoordinatorMachine}
+use Rattle.syn_machine.specs.Coordinator.{CoordinatorMachine}
 use Rattle.syn_refusal.specs.Refusals.{cause_of}
 use Rattle.syn_refusal.specs.declared.refusal.Refusal.{Refusal as Answer}
 use Rattle.syn_coordinator.specs.Coordinators.{Stands, device_of, runs}

@@ -17,6 +17,10 @@ use syn_path::{Key, Name, Path, PathError};
 pub(super) const PART: &str =
     ".a-part-of-a-file-that-syn-export-was-writing-when-it-was-cut-off-remove-it";
 
+/// The name of the directory in which a folder has what belongs to `syn` itself. At any depth, what
+/// has this name is neither read nor written as a part of the folder.
+pub(super) const OWN: &str = ".syn";
+
 /// What has a name in a directory, for a replica.
 #[derive(Drop)]
 enum Fit {
@@ -28,13 +32,15 @@ enum Fit {
     NoPath,
 }
 
-/// The name is that of something in the directory, and not of a part of an export.
+/// The name is that of something in the directory, and neither of a part of an export nor of what
+/// belongs to `syn` itself.
 pub(super) fn is_listed(name: &[u8]) -> bool
     ensures { result ≡ is_listed name.now }
 {
     !name.is_empty()
         && name != b".".as_slice()
         && name != b"..".as_slice()
+        && name != OWN.as_bytes()
         && !name.starts_with(PART.as_bytes())
 }
 

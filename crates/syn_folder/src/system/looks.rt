@@ -39,6 +39,20 @@ impl Look {
         }
     }
 
+    /// It is the look of the same file or directory of the system, at some time.
+    pub(super) fn is_of_same(&self, other: &Look) -> bool {
+        self.device == other.device && self.node == other.node
+    }
+
+    /// The other is the look of the same file before it was moved, and it was not written since nor
+    /// got another mode. A file that is moved has another time of change.
+    pub(super) fn is_moved_from(&self, other: &Look) -> bool {
+        self.is_of_same(other)
+            && self.mode == other.mode
+            && self.length == other.length
+            && self.modified == other.modified
+    }
+
     /// The nine permission bits of a file; what else the system's mode has, a replica has not.
     pub(super) fn file_mode(self) -> Mode
         ensures { mode_of result ≡ self.mode % 512 }

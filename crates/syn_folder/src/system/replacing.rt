@@ -1,325 +1,175 @@
-//! Replaces a part of a folder that others edit, where it still is what was read.
-ghost use Rattle.std.specs.Prelude.{◌≡◌, ◌++◌, ◌∷◌, [], IfOk};
+//! Replaces what stands at and below a path of a folder that others edit, where it still is what
+//! was read.
+ghost use Rattle.std.specs.Prelude.{◌≡◌, ◌∷◌, [], IfErr, IfOk, OnOk};
+ghost use Rattle.syn_folder.specs.Stages.{IsCutOff, IsRefusedAt, IsSettled, IsUntouched};
+ghost use Rattle.syn_folder.specs.Stages.{IsReady, MayReturn};
+ghost use Rattle.syn_folder.specs.declared.system.stage.Stage.TheVariants.{Done, Kept, Noted};
+ghost use Rattle.syn_folder.specs.declared.system.stage.Stage.TheVariants.{Vacant};
 
 use crate::error::FolderError;
-use crate::system::listing::{PART, count_listed};
-use crate::system::looking::{is_gone, read_names, system_path_of};
-use crate::system::looks::{Look, Looked};
-use crate::system::writing::{above, check_above, write_new};
+use crate::system::calls::PlaceCalls;
+use crate::system::stage::Stage;
 use std::alloc::Global;
-use std::fs::{Files, OpenFile, OpenOptions};
-use std::io::{self, Read};
-use syn_path::{Name, Path};
-use syn_tree::{Found, LONGEST_FILE, Mode, Node, Tree};
+use std::io;
+use syn_path::Path;
 
-/// A folder in which a part is to be replaced, and what was read of it.
-#[derive(Clone, Copy)]
-pub(super) struct Replacing<'a, F> {
-    pub(super) files: &'a F,
-    pub(super) root: &'a str,
-    pub(super) tree: &'a Tree,
-    /// In path order.
-    pub(super) looks: &'a [Looked],
-}
-
-impl<F: Files> Replacing<'_, F> {
-    /// Puts what is given in the place of what is at and below the path.
-    ///
-    /// Refused 13 where something there is not what was read, 9 where a call of the system fails,
-    /// and 11 where memory is refused. All is looked at before anything is written, and each file
-    /// again directly before it goes.
-    pub(super) fn replace(
-        &self,
-        alloc: Global,
-        path: &Path,
-        new: Option<&Node>,
-    ) -> Result<(), FolderError> {
-        self.check_directories_above(alloc, path)?;
-        self.check_part(alloc, path)?;
-        let is_directory = match self.tree.get(path) {
-            Some(found) => found.is_directory(),
-            None => false,
-        };
-        match new {
-            Some(Node::File(mode, bytes)) if !is_directory => {
-                self.put(alloc, path, *mode, bytes)?;
-            }
-            _ => {
-                self.remove_part(alloc, path)?;
-                if let Some(node) = new {
-                    self.write_part(alloc, path, node)?;
-                }
-            }
-        }
-        Ok(())
-    }
-
-    /// Refuses 13 where a directory above the path is none any more.
-    fn check_directories_above(&self, alloc: Global, path: &Path) -> Result<(), FolderError> {
-        match check_above(alloc, self.files, self.root, path) {
-            Err(error) if is_gone(&error) => Err(changed(alloc, path)),
-            checked => Ok(checked?),
-        }
-    }
-
-    /// Refuses 13 where something at or below the path is not what was read.
-    fn check_part(&self, alloc: Global, path: &Path) -> Result<(), FolderError> {
-        self.check(alloc, path)?;
-        for pair in self.tree.below(path) {
-            self.check(alloc, &pair.path(alloc)?)?;
-        }
-        Ok(())
-    }
-
-    /// Refuses 13 where what is at the path is not what was read.
-    fn check(&self, alloc: Global, path: &Path) -> Result<(), FolderError> {
-        let system_path = system_path_of(alloc, self.root, path.names())?;
-        let is_same = match self.tree.get(path) {
-            None => self.is_missing(system_path.as_str())?,
-            Some(Found::Dir) => self.has_only_known_names(alloc, path, system_path.as_str())?,
-            Some(Found::File(mode, bytes)) => {
-                self.is_same_file(alloc, path, system_path.as_str(), mode, bytes)?
-            }
-        };
-        if is_same {
-            Ok(())
-        } else {
-            Err(changed(alloc, path))
-        }
-    }
-
-    /// Nothing is there.
-    fn is_missing(&self, system_path: &str) -> io::Result<bool> {
-        match self.files.symlink_metadata(system_path) {
-            Ok(_) => Ok(false),
-            Err(error) if is_gone(&error) => Ok(true),
-            Err(error) => Err(error),
-        }
-    }
-
-    /// A directory is there, with as many names as were read. Whether each of those is there is
-    /// looked at by itself.
-    fn has_only_known_names(
-        &self,
-        alloc: Global,
-        path: &Path,
-        system_path: &str,
-    ) -> io::Result<bool> {
-        match self.files.symlink_metadata(system_path) {
-            Ok(there) if there.is_dir() => {}
-            Ok(_) => return Ok(false),
-            Err(error) if is_gone(&error) => return Ok(false),
-            Err(error) => return Err(error),
-        }
-        let listing = read_names(alloc, self.files, system_path)?;
-        Ok(count_listed(&listing) == self.tree.child_count(path))
-    }
-
-    /// The file is there with this mode and these bytes, and then looks as it did when it was read.
-    fn is_same_file(
-        &self,
-        alloc: Global,
-        path: &Path,
-        system_path: &str,
-        mode: Mode,
-        bytes: &[u8],
-    ) -> io::Result<bool> {
-        let Some(look) = self.look_at(path) else {
-            return Ok(false);
-        };
-        let mut options = OpenOptions::new();
-        match options.read(true).open(self.files, system_path) {
-            Ok(file) => {
-                if Look::of(&file.metadata()?) != look {
-                    return Ok(false);
-                }
-                let mut there = Vec::new(alloc);
-                file.take(LONGEST_FILE as u64 + 1).read_to_end(&mut there)?;
-                if there.as_slice() != bytes {
-                    return Ok(false);
-                }
-            }
-            Err(error) if is_gone(&error) => return Ok(false),
-            Err(error) => return Err(error),
-        }
-        match self.files.symlink_metadata(system_path) {
-            Ok(there) => Ok(Look::of(&there) == look && look.file_mode().is_same(mode)),
-            Err(error) if is_gone(&error) => Ok(false),
-            Err(error) => Err(error),
-        }
-    }
-
-    /// How what is at the path looked when it was read.
-    fn look_at(&self, path: &Path) -> Option<Look> {
-        match self.looks.binary_search_by(|one| one.path.cmp(path)) {
-            Ok(at) => self.looks.get(at).map(|one| one.look),
-            Err(_) => None,
-        }
-    }
-
-    /// Removes what is at and below the path, each once it was looked at again.
-    fn remove_part(&self, alloc: Global, path: &Path) -> Result<(), FolderError> {
-        for pair in self.tree.below(path).rev() {
-            let below = pair.path(alloc)?;
-            self.remove(alloc, &below, pair.found().is_directory())?;
-        }
-        if let Some(found) = self.tree.get(path) {
-            self.remove(alloc, path, found.is_directory())?;
-            self.sync_above(alloc, path)?;
-        }
-        Ok(())
-    }
-
-    /// Removes a file that is what was read, or a directory that is empty.
-    fn remove(&self, alloc: Global, path: &Path, is_directory: bool) -> Result<(), FolderError> {
-        self.check_directories_above(alloc, path)?;
-        let system_path = system_path_of(alloc, self.root, path.names())?;
-        if !is_directory {
-            self.check(alloc, path)?;
-            self.files.remove_file(system_path.as_str())?;
-            return Ok(());
-        }
-        match self.files.remove_dir(system_path.as_str()) {
-            Err(error) if is_taken(&error) => Err(changed(alloc, path)),
-            removed => Ok(removed?),
-        }
-    }
-
-    /// Writes the part at the path, where nothing is.
-    fn write_part(&self, alloc: Global, path: &Path, node: &Node) -> Result<(), FolderError> {
-        let entries = match node {
-            Node::File(mode, bytes) => return self.put_new(alloc, path, *mode, bytes),
-            Node::Dir(entries) => entries,
-        };
-        self.make_dir(alloc, path)?;
-        for pair in entries.iter() {
-            let below = joined(alloc, path, pair.path(alloc)?.names())?;
-            match pair.found() {
-                Found::Dir => self.make_dir(alloc, &below)?,
-                Found::File(mode, bytes) => self.put_new(alloc, &below, mode, bytes)?,
-            }
-        }
-        Ok(())
-    }
-
-    /// Makes a directory where nothing is.
-    fn make_dir(&self, alloc: Global, path: &Path) -> Result<(), FolderError> {
-        self.check_directories_above(alloc, path)?;
-        let system_path = system_path_of(alloc, self.root, path.names())?;
-        match self.files.create_dir(system_path.as_str()) {
-            Err(error) if is_taken(&error) => return Err(changed(alloc, path)),
-            made => made?,
-        }
-        self.sync_above(alloc, path)
-    }
-
-    /// Puts the file in the place of the one at the path, or where nothing is.
-    fn put(&self, alloc: Global, path: &Path, mode: Mode, bytes: &[u8]) -> Result<(), FolderError> {
-        if self.tree.get(path).is_none() {
-            return self.put_new(alloc, path, mode, bytes);
-        }
-        let part = self.write_beside(alloc, path, mode, bytes)?;
-        let moved = self.move_over(alloc, path, part.as_str());
-        if moved.is_err() {
-            let _ = self.files.remove_file(part.as_str());
-        }
-        moved?;
-        self.sync_above(alloc, path)
-    }
-
-    /// Gives the file that lies beside the path its name, once the one there was looked at.
-    fn move_over(&self, alloc: Global, path: &Path, part: &str) -> Result<(), FolderError> {
-        let system_path = system_path_of(alloc, self.root, path.names())?;
-        self.check_directories_above(alloc, path)?;
-        self.check(alloc, path)?;
-        Ok(self.files.rename(part, system_path.as_str())?)
-    }
-
-    /// Puts the file where nothing is.
-    fn put_new(
-        &self,
-        alloc: Global,
-        path: &Path,
-        mode: Mode,
-        bytes: &[u8],
-    ) -> Result<(), FolderError> {
-        self.check_directories_above(alloc, path)?;
-        let part = self.write_beside(alloc, path, mode, bytes)?;
-        let linked = self.link(alloc, path, part.as_str());
-        let _ = self.files.remove_file(part.as_str());
-        linked?;
-        self.sync_above(alloc, path)
-    }
-
-    /// Gives the file that lies beside the path its name, which nothing has. Where the system has
-    /// no second names, it is looked at first.
-    fn link(&self, alloc: Global, path: &Path, part: &str) -> Result<(), FolderError> {
-        let system_path = system_path_of(alloc, self.root, path.names())?;
-        match self.files.hard_link(part, system_path.as_str()) {
-            Ok(()) => Ok(()),
-            Err(error) if is_taken(&error) => Err(changed(alloc, path)),
-            Err(_) => {
-                if !self.is_missing(system_path.as_str())? {
-                    return Err(changed(alloc, path));
-                }
-                Ok(self.files.rename(part, system_path.as_str())?)
-            }
-        }
-    }
-
-    /// Writes the bytes into a file beside the path, with the mode, and answers its name.
-    fn write_beside(
-        &self,
-        alloc: Global,
-        path: &Path,
-        mode: Mode,
-        bytes: &[u8],
-    ) -> Result<String, FolderError> {
-        let mut part = system_path_of(alloc, self.root, above(path))?;
-        part.push('/')?;
-        part.push_str(PART)?;
-        // A part that was cut off goes. It is no file of anybody's: see its name.
-        let _ = self.files.remove_file(part.as_str());
-        if let Err(error) = write_new(self.files, part.as_str(), mode, bytes) {
-            let _ = self.files.remove_file(part.as_str());
-            return Err(FolderError::System(error));
-        }
-        Ok(part)
-    }
-
-    /// Syncs the names of the directory that the path is in.
-    fn sync_above(&self, alloc: Global, path: &Path) -> Result<(), FolderError> {
-        let system_path = system_path_of(alloc, self.root, above(path))?;
-        let mut options = OpenOptions::new();
-        let directory = options.read(true).open(self.files, system_path.as_str())?;
-        Ok(directory.sync_all()?)
-    }
-}
-
-/// The path of what has these names below the path.
-fn joined(alloc: Global, path: &Path, names: &[Name]) -> Result<Path, FolderError>
-    ensures { IfOk result (λ whole. whole ≡ path.now ++ names.now) }
+/// Puts what is wanted in the place of what stands at and below the path, where that is what was
+/// read. What was read lies in `.syn/kept` then.
+///
+/// Refused 13 where something else stands there: it stands there still, or again. Where it was
+/// moved, and something else came there meanwhile, that stays, and what was moved stays in
+/// `.syn/kept`. Refused 9 where a call of the system fails, and 11 where memory is refused: if a
+/// note stands then, `settle` ends what was begun.
+pub(super) fn replace<C: PlaceCalls>(alloc: Global, calls: &mut C) -> Result<(), FolderError>
+    requires { IsUntouched (C.stage calls.old) }
+    ensures done { OnOk result (C.stage calls.new ≡ Done) }
+    ensures refused { IfErr result (λ e. IsRefusedAt e (C.stage calls.new)) }
 {
-    let mut whole = path.copy(alloc)?;
-    for name in names {
-        whole = whole.child(alloc, name)?;
+    match calls.looks_as_read(alloc) {
+        Ok(true) => {}
+        Ok(false) => return Err(changed(alloc, calls.path())),
+        Err(error) => return Err(FolderError::System(error)),
     }
-    Ok(whole)
+    if let Err(error) = calls.prepare(alloc) {
+        return Err(FolderError::System(error));
+    }
+    match calls.stage() {
+        Stage::Noted => put_over(alloc, calls),
+        _ => put_new(alloc, calls),
+    }
 }
 
-/// Something is there that nobody read.
-fn is_taken(error: &io::Error) -> bool {
-    matches!(
-        error.kind(),
-        io::ErrorKind::AlreadyExists
-            | io::ErrorKind::DirectoryNotEmpty
-            | io::ErrorKind::NotADirectory
-            | io::ErrorKind::NotFound
-    )
+/// Puts what is wanted, if anything is, where nothing was read.
+fn put_new<C: PlaceCalls>(alloc: Global, calls: &mut C) -> Result<(), FolderError>
+    requires { C.stage calls.old ≡ Vacant }
+    ensures done { OnOk result (C.stage calls.new ≡ Done) }
+    ensures refused { IfErr result (λ e. IsRefusedAt e (C.stage calls.new)) }
+{
+    if !calls.is_wanted() {
+        return end(alloc, calls);
+    }
+    match calls.place(alloc) {
+        Ok(true) => end(alloc, calls),
+        Ok(false) => Err(changed(alloc, calls.path())),
+        Err(error) => Err(FolderError::System(error)),
+    }
+}
+
+/// Puts what is wanted in the place of what was read, once a note of it stands.
+fn put_over<C: PlaceCalls>(alloc: Global, calls: &mut C) -> Result<(), FolderError>
+    requires { C.stage calls.old ≡ Noted }
+    ensures done { OnOk result (C.stage calls.new ≡ Done) }
+    ensures refused { IfErr result (λ e. IsRefusedAt e (C.stage calls.new)) }
+{
+    match calls.take(alloc) {
+        Ok(true) => {}
+        Ok(false) => return end_refused(alloc, calls, None),
+        Err(error) => return end_refused(alloc, calls, Some(error)),
+    }
+    match calls.compare(alloc) {
+        Ok(true) => put_in_place(alloc, calls),
+        Ok(false) => undo(alloc, calls, None),
+        Err(error) => undo(alloc, calls, Some(error)),
+    }
+}
+
+/// Puts what is wanted, if anything is, in the place of what was moved and is what was read.
+fn put_in_place<C: PlaceCalls>(alloc: Global, calls: &mut C) -> Result<(), FolderError>
+    requires { C.stage calls.old ≡ Kept }
+    ensures done { OnOk result (C.stage calls.new ≡ Done) }
+    ensures refused { IfErr result (λ e. IsRefusedAt e (C.stage calls.new)) }
+{
+    if !calls.is_wanted() {
+        return end(alloc, calls);
+    }
+    match calls.place(alloc) {
+        Ok(true) => end(alloc, calls),
+        Ok(false) => undo(alloc, calls, None),
+        Err(error) => undo(alloc, calls, Some(error)),
+    }
+}
+
+/// Puts what was moved back, if its place is free, and refuses as the system did, or 13 where that
+/// did not refuse.
+fn undo<C: PlaceCalls>(
+    alloc: Global,
+    calls: &mut C,
+    why: Option<io::Error>,
+) -> Result<(), FolderError>
+    requires { MayReturn (C.stage calls.old) }
+    ensures done { OnOk result (C.stage calls.new ≡ Done) }
+    ensures refused { IfErr result (λ e. IsRefusedAt e (C.stage calls.new)) }
+{
+    match calls.put_back(alloc) {
+        Ok(true) => end_refused(alloc, calls, why),
+        Ok(false) => {
+            if let Err(error) = calls.leave(alloc) {
+                return Err(FolderError::System(error));
+            }
+            Err(refusal(alloc, calls.path(), why))
+        }
+        Err(error) => Err(FolderError::System(error)),
+    }
+}
+
+/// Removes the note of a path at which stands what stood there, and refuses as the system did, or
+/// 13 where that did not refuse.
+fn end_refused<C: PlaceCalls>(
+    alloc: Global,
+    calls: &mut C,
+    why: Option<io::Error>,
+) -> Result<(), FolderError>
+    requires { C.stage calls.old ≡ Noted }
+    ensures done { OnOk result (C.stage calls.new ≡ Done) }
+    ensures refused { IfErr result (λ e. IsRefusedAt e (C.stage calls.new)) }
+{
+    if let Err(error) = calls.close(alloc) {
+        return Err(FolderError::System(error));
+    }
+    Err(refusal(alloc, calls.path(), why))
+}
+
+/// Removes the note of what is done, if one stands.
+fn end<C: PlaceCalls>(alloc: Global, calls: &mut C) -> Result<(), FolderError>
+    requires { IsReady (C.is_wanted calls.old) (C.stage calls.old) }
+    ensures done { OnOk result (C.stage calls.new ≡ Done) }
+    ensures refused { IfErr result (λ e. IsRefusedAt e (C.stage calls.new)) }
+{
+    match calls.close(alloc) {
+        Ok(()) => Ok(()),
+        Err(error) => Err(FolderError::System(error)),
+    }
+}
+
+/// Ends what a note tells of that an earlier run left. What was moved is put back, if its place is
+/// free.
+///
+/// An error where a call of the system fails, or memory is refused. The note stands then.
+pub(super) fn settle<C: PlaceCalls>(alloc: Global, calls: &mut C) -> io::Result<()>
+    requires { IsCutOff (C.stage calls.old) }
+    ensures { OnOk result (IsSettled (C.stage calls.new)) }
+{
+    match calls.stage() {
+        Stage::Moved => {}
+        _ => return calls.close(alloc),
+    }
+    match calls.put_back(alloc) {
+        Ok(true) => calls.close(alloc),
+        Ok(false) => calls.leave(alloc),
+        Err(error) => Err(error),
+    }
+}
+
+/// What the system refused, or else that what is at the path is not what was read.
+fn refusal(alloc: Global, path: &Path, why: Option<io::Error>) -> FolderError {
+    match why {
+        Some(error) => FolderError::System(error),
+        None => changed(alloc, path),
+    }
 }
 
 /// That what is at the path is not what was read.
-fn changed(alloc: Global, path: &Path) -> FolderError {
+pub(super) fn changed(alloc: Global, path: &Path) -> FolderError {
     match one_path(alloc, path) {
         Ok(paths) => FolderError::Changed(paths),
         Err(error) => error,

@@ -2,6 +2,7 @@
 ghost use Rattle.std.specs.Prelude.{◌≡◌};
 ghost use Rattle.syn_model.specs.Path.{parent};
 
+use crate::system::editing::has_own;
 use crate::system::listing::PART;
 use crate::system::looking::system_path_of;
 use std::alloc::Global;
@@ -29,8 +30,31 @@ pub(super) struct Part {
 }
 
 /// Makes the edit in the folder, which holds the tree once each of the parts has its place. What is
-/// put is a part more.
+/// put is a part more. What has a name `.syn` in its path is left alone.
 pub(super) fn make<F: Files>(
+    alloc: Global,
+    files: &F,
+    root: &str,
+    tree: &Tree,
+    edit: &Edit,
+    parts: &mut Vec<Part>,
+) -> io::Result<()> {
+    if has_own(path_of(edit).names()) {
+        return Ok(());
+    }
+    make_named(alloc, files, root, tree, edit, parts)
+}
+
+/// The path that is edited.
+fn path_of(edit: &Edit) -> &Path {
+    match edit {
+        Edit::Put(path, _) | Edit::Chmod(path, _) => path,
+        Edit::MakeDir(path) | Edit::Remove(path) => path,
+    }
+}
+
+/// Makes the edit, at whatever path.
+fn make_named<F: Files>(
     alloc: Global,
     files: &F,
     root: &str,

@@ -2,7 +2,7 @@
 ghost use Rattle.std.specs.Prelude.{◌≡◌, ◌≢◌, ◌⊎◌, ◌<◌, ◌^◌, ℕ, None, Some, Option, true, false};
 ghost use Rattle.std.specs.Prelude.{IfOk, IfErr};
 ghost use Rattle.std.specs.Prelude.{OnOk, MatchResult};
-ghost use Rattle.syn_headline.specs.Machine as model;
+ghost use Rattle.syn_machine.specs.Machine as model;
 ghost use Rattle.syn_journal.specs.Journal as journal;
 ghost use Rattle.syn_journal.specs.Layout.{Value};
 ghost use Rattle.syn_journal.specs.Journal.{Shows};

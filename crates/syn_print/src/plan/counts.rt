@@ -1,6 +1,6 @@
 //! How many items of each kind a plan has.
 ghost use Rattle.std.specs.Prelude.{◌≡◌, is_some};
-ghost use Rattle.syn_headline.specs.Report.{conflict_at, is_carrying, is_marking};
+ghost use Rattle.syn_machine.specs.Report.{conflict_at, is_carrying, is_marking};
 ghost use Rattle.syn_recon.specs.Items.{item_of};
 ghost use Rattle.syn_print.specs.Counting.{carried_in, conflicts_in, marked_in};
 

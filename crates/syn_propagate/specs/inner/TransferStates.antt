@@ -1,8 +1,8 @@
 -- How far a transfer has come, by its state.
 use Rattle.std.specs.Prelude.{◌≡◌, ◌+◌, ◌<◌, ◌≤◌, ℕ, suc, length, Option, Some, None}
-use Rattle.syn_headline.specs.Network.{Which}
-use Rattle.syn_headline.specs.Session.{first_total}
-use Rattle.syn_headline.specs.Side.{Request, Fetch, Stage, Replace}
+use Rattle.syn_machine.specs.Network.{Which}
+use Rattle.syn_machine.specs.Session.{first_total}
+use Rattle.syn_machine.specs.Side.{Request, Fetch, Stage, Replace}
 use Rattle.syn_model.specs.Path.{Bytes}
 use Rattle.syn_propagate.specs.Carrying.{Exchanges, AreEarlier, IsWhole}
 use Rattle.syn_propagate.specs.Carrying.{WasFetched, WasStaged, source_of, target_of}

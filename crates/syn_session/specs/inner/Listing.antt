@@ -1,10 +1,10 @@
 -- What is listed next in a session that scans, and what stays of it.
 use Rattle.std.specs.Prelude.{◌≡◌, ◌≢◌, ◌≤◌, ◌+◌, ◌⊎◌, ◌++◌, length, map, List, [], All, AllPairs}
 use Rattle.std.specs.Prelude.{Bool, not, nat_eq, nat_lt, ◌&&◌}
-use Rattle.syn_headline.specs.Coordinator.{Exchange, most_listings}
-use Rattle.syn_headline.specs.Network.{Which, other}
-use Rattle.syn_headline.specs.Session.{IsShown}
-use Rattle.syn_headline.specs.Side.{ListAt}
+use Rattle.syn_machine.specs.Coordinator.{Exchange, most_listings}
+use Rattle.syn_machine.specs.Network.{Which, other}
+use Rattle.syn_machine.specs.Session.{IsShown}
+use Rattle.syn_machine.specs.Side.{ListAt}
 use Rattle.syn_model.specs.Path.{IsPath, Path}
 use Rattle.syn_scan.specs.Asked.{AreAllOut}
 use Rattle.syn_session.specs.Answering.{asks_of}

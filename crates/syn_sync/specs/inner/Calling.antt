@@ -2,8 +2,8 @@
 use Rattle.std.specs.Prelude.{◌≡◌, ◌⊎◌, ℕ, false, true, List, [], Option}
 use Rattle.syn_disk.specs.Arms.{is_stopped}
 use Rattle.syn_disk.specs.declared.disk.Disk.{Ghosts}
-use Rattle.syn_headline.specs.Coordinator.{CoordinatorMachine}
-use Rattle.syn_headline.specs.Network.{Message, Which}
+use Rattle.syn_machine.specs.Coordinator.{CoordinatorMachine}
+use Rattle.syn_machine.specs.Network.{Message, Which}
 use Rattle.syn_model.specs.Refusal as why
 use Rattle.syn_refusal.specs.Refusals.{cause_of}
 use Rattle.syn_refusal.specs.declared.refusal.Refusal.{Refusal}

@@ -1,8 +1,8 @@
 //! A coordinator is opened: from its disk alone, after a stop of its machine, or again.
 ghost use Rattle.std.specs.Prelude.{◌≡◌, ℕ, IfErr, IfOk, MatchResult, Some};
 ghost use Rattle.syn_disk.specs.Disk.{NothingNew};
-ghost use Rattle.syn_headline.specs.Coordinator.{CoordinatorMachine, coordinator_kind};
-ghost use Rattle.syn_headline.specs.MachineSteps.{Does, Open, Reopen};
+ghost use Rattle.syn_machine.specs.Coordinator.{CoordinatorMachine, coordinator_kind};
+ghost use Rattle.syn_machine.specs.MachineSteps.{Does, Open, Reopen};
 ghost use Rattle.syn_world.specs.CoordinatorOpenings.{OpeningIsStep, SettlesFound};
 ghost use Rattle.syn_world.specs.Coordinators.{IsCoordinator, archive_disk};
 ghost use Rattle.syn_world.specs.Starts.{CanStart, CountsFailure, HoldsArchive, IsFromOutside};

@@ -1,8 +1,8 @@
 //! The coordinator's sessions: it starts one, takes the answers of the sides, and waits for them.
 ghost use Rattle.std.specs.Prelude.{◌≡◌, ◌≢◌, ℕ, false, true, option_map};
-ghost use Rattle.syn_headline.specs.Coordinator.{CoordinatorMachine, CoordinatorTakes};
-ghost use Rattle.syn_headline.specs.Coordinator.{CoordinatorTicks, Starts, no_call};
-ghost use Rattle.syn_headline.specs.MachineSteps.{refused_by};
+ghost use Rattle.syn_machine.specs.Coordinator.{CoordinatorMachine, CoordinatorTakes};
+ghost use Rattle.syn_machine.specs.Coordinator.{CoordinatorTicks, Starts, no_call};
+ghost use Rattle.syn_machine.specs.MachineSteps.{refused_by};
 ghost use Rattle.syn_world.specs.CoordinatorSteps.{CallIsStep, Settles, Unrefused};
 ghost use Rattle.syn_message.specs.Replies.{IsLawfulReply, reply_of};
 ghost use Rattle.syn_path.specs.Sides.{which_of};

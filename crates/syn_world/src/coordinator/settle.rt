@@ -1,8 +1,8 @@
 //! What a call leaves of a coordinator, and what comes of it.
 ghost use Rattle.std.specs.Prelude.{◌≡◌, ◌&&◌, [], ℕ, List, IfSome, if◌then◌else◌, not, option_map};
-ghost use Rattle.syn_headline.specs.Coordinator.{Call, CoordinatorMachine};
-ghost use Rattle.syn_headline.specs.Machine.{Status};
-ghost use Rattle.syn_headline.specs.MachineSteps.{refused_by};
+ghost use Rattle.syn_machine.specs.Coordinator.{Call, CoordinatorMachine};
+ghost use Rattle.syn_machine.specs.Machine.{Status};
+ghost use Rattle.syn_machine.specs.MachineSteps.{refused_by};
 ghost use Rattle.syn_world.specs.CoordinatorSteps.{IsToTell, Settles, StopsAs};
 ghost use Rattle.syn_world.specs.Coordinators.{IsCoordinator, archive_disk};
 ghost use Rattle.syn_world.specs.Outcomes.{TellsKeptOf, causes_in};

@@ -1,6 +1,6 @@
 //! The steps of the world at its coordinator.
-ghost use Rattle.syn_headline.specs.World.{World as ModelWorld, Checkpoint, Coordinator};
-ghost use Rattle.syn_headline.specs.World.{Fail, Stop};
+ghost use Rattle.syn_runs.specs.World.{World as ModelWorld, Checkpoint, Coordinator};
+ghost use Rattle.syn_runs.specs.World.{Fail, Stop};
 
 use super::Running;
 use crate::SimulatedDisk;

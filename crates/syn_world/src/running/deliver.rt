@@ -1,5 +1,5 @@
 //! A message is delivered.
-ghost use Rattle.syn_headline.specs.World.{World as ModelWorld, Deliver};
+ghost use Rattle.syn_runs.specs.World.{World as ModelWorld, Deliver};
 
 use super::Running;
 use crate::SimulatedDisk;

@@ -1,9 +1,9 @@
 //! The machines of a world are stopped, and their disks come back.
 ghost use Rattle.std.specs.Prelude.{◌≡◌, ℕ};
 ghost use Rattle.syn_disk.specs.Disk.{NothingNew};
-ghost use Rattle.syn_headline.specs.Coordinator.{CoordinatorMachine};
-ghost use Rattle.syn_headline.specs.SideMachine.{SideMachine};
-ghost use Rattle.syn_headline.specs.World.{World as ModelWorld};
+ghost use Rattle.syn_machine.specs.Coordinator.{CoordinatorMachine};
+ghost use Rattle.syn_machine.specs.SideMachine.{SideMachine};
+ghost use Rattle.syn_runs.specs.World.{World as ModelWorld};
 ghost use Rattle.syn_world.specs.Coordinators.{IsCoordinator, archive_disk};
 ghost use Rattle.syn_world.specs.Sides.{IsHost, side_disk};
 ghost use Rattle.syn_journal.specs.Calls.{IsFree};

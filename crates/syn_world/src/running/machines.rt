@@ -1,6 +1,6 @@
 //! The steps of the world at one of its machines.
-ghost use Rattle.syn_headline.specs.World.{World as ModelWorld, Checkpoint, Fail, Open, Reopen};
-ghost use Rattle.syn_headline.specs.World.{Stop};
+ghost use Rattle.syn_runs.specs.World.{World as ModelWorld, Checkpoint, Fail, Open, Reopen};
+ghost use Rattle.syn_runs.specs.World.{Stop};
 ghost use Rattle.syn_world.specs.Steps.{machine_of};
 
 use super::Running;

@@ -1,6 +1,6 @@
 //! The openings of the world's coordinator.
 ghost use Rattle.std.specs.Prelude.{IfSome};
-ghost use Rattle.syn_headline.specs.World.{World as ModelWorld, Coordinator, Open, Reopen};
+ghost use Rattle.syn_runs.specs.World.{World as ModelWorld, Coordinator, Open, Reopen};
 ghost use Rattle.syn_world.specs.Failures.{failures_in};
 ghost use Rattle.syn_world.specs.Worlds.{TellsFound};
 

@@ -1,5 +1,5 @@
 //! The machines of a world go by a step.
-ghost use Rattle.syn_headline.specs.World.{World as ModelWorld};
+ghost use Rattle.syn_runs.specs.World.{World as ModelWorld};
 ghost use Rattle.syn_world.specs.Steps.{step_of};
 
 use super::Running;

@@ -1,7 +1,7 @@
 //! The sessions of the world's coordinator.
 ghost use Rattle.std.specs.Prelude.{◌≡◌, ℕ, Some, option_map, slice_get};
-ghost use Rattle.syn_headline.specs.Network.{Answers};
-ghost use Rattle.syn_headline.specs.World.{World as ModelWorld, Deliver, Start, Tick};
+ghost use Rattle.syn_machine.specs.Network.{Answers};
+ghost use Rattle.syn_runs.specs.World.{World as ModelWorld, Deliver, Start, Tick};
 ghost use Rattle.syn_message.specs.Replies.{reply_of};
 ghost use Rattle.syn_path.specs.Sides.{which_of};
 

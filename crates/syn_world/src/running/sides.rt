@@ -1,9 +1,9 @@
 //! The steps of the world at a side.
 ghost use Rattle.std.specs.Prelude.{◌≡◌, ℕ, Some, slice_get};
-ghost use Rattle.syn_headline.specs.Network.{Asks};
+ghost use Rattle.syn_machine.specs.Network.{Asks};
 ghost use Rattle.syn_message.specs.Requests.{request_of};
-ghost use Rattle.syn_headline.specs.World.{World as ModelWorld, At, Edits, Checkpoint, Deliver};
-ghost use Rattle.syn_headline.specs.World.{Open, Fail, Reopen, Stop};
+ghost use Rattle.syn_runs.specs.World.{World as ModelWorld, At, Edits, Checkpoint, Deliver};
+ghost use Rattle.syn_runs.specs.World.{Open, Fail, Reopen, Stop};
 ghost use Rattle.syn_path.specs.Sides.{which_of};
 ghost use Rattle.syn_tree.specs.Edits.{edit_of};
 

@@ -1,7 +1,7 @@
 //! A checkpoint of a side.
 ghost use Rattle.std.specs.Prelude.{◌<◌, ◌+◌, ◌^◌, ℕ};
-ghost use Rattle.syn_headline.specs.MachineSteps.{Checkpoint, Does};
-ghost use Rattle.syn_headline.specs.SideMachine.{SideMachine, side_kind};
+ghost use Rattle.syn_machine.specs.MachineSteps.{Checkpoint, Does};
+ghost use Rattle.syn_machine.specs.SideMachine.{SideMachine, side_kind};
 ghost use Rattle.syn_replica.specs.Replica.{IsHalted, disk_of, generation_shown};
 
 use super::{SideCall, SideHost, UpSide};

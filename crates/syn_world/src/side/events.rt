@@ -1,6 +1,6 @@
 //! A side takes a user's edit, or a request of a session: either may add an event.
 ghost use Rattle.std.specs.Prelude.{◌≡◌, ◌≢◌, ℕ};
-ghost use Rattle.syn_headline.specs.SideMachine.{SideMachine, UserEdits};
+ghost use Rattle.syn_machine.specs.SideMachine.{SideMachine, UserEdits};
 ghost use Rattle.syn_world.specs.declared.outcome.SideOutcome.TheVariants as outcomes;
 ghost use Rattle.syn_message.specs.Requests.{request_of};
 ghost use Rattle.syn_model.specs.Event.{IsLawfulEvent};

@@ -1,7 +1,7 @@
 //! A side of the world, up or down, and each kind of step.
 ghost use Rattle.std.specs.Prelude.{◌≡◌, ℕ, List};
-ghost use Rattle.syn_headline.specs.MachineSteps.{Checkpoint, Does, Fail, Open, Reopen, Stop};
-ghost use Rattle.syn_headline.specs.SideMachine.{SideMachine, UserEdits, side_kind};
+ghost use Rattle.syn_machine.specs.MachineSteps.{Checkpoint, Does, Fail, Open, Reopen, Stop};
+ghost use Rattle.syn_machine.specs.SideMachine.{SideMachine, UserEdits, side_kind};
 ghost use Rattle.syn_world.specs.declared.outcome.SideOutcome.TheVariants as outcomes;
 ghost use Rattle.syn_message.specs.Requests.{request_of};
 ghost use Rattle.syn_replica.specs.Keepings.{of_side};

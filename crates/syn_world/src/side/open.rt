@@ -1,7 +1,7 @@
 //! A side is opened after a stop of its machine, or again.
 ghost use Rattle.std.specs.Prelude.{◌≡◌, ℕ, IfOk, option_map};
-ghost use Rattle.syn_headline.specs.MachineSteps.{Does, Open, Reopen};
-ghost use Rattle.syn_headline.specs.SideMachine.{SideMachine, side_kind};
+ghost use Rattle.syn_machine.specs.MachineSteps.{Does, Open, Reopen};
+ghost use Rattle.syn_machine.specs.SideMachine.{SideMachine, side_kind};
 ghost use Rattle.syn_world.specs.Sides.{Gains};
 ghost use Rattle.syn_replica.specs.Replica.{disk_of, tried_shown};
 

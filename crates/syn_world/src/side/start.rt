@@ -5,7 +5,7 @@ ghost use Rattle.syn_agent.specs.Machines.{IsOf};
 ghost use Rattle.syn_agent.specs.declared.agent.Agent.{Agent as Staged};
 ghost use Rattle.syn_archive.specs.Disks.{IsWanted};
 ghost use Rattle.syn_disk.specs.Disk.{NothingNew};
-ghost use Rattle.syn_headline.specs.SideMachine.{SideMachine};
+ghost use Rattle.syn_machine.specs.SideMachine.{SideMachine};
 ghost use Rattle.syn_world.specs.Sides.{replica_in};
 ghost use Rattle.syn_world.specs.Starts.{CanStart, CountsFailure, HoldsReplica, IsFromOutside};
 ghost use Rattle.syn_world.specs.Starts.{RefusesSide, StartsSide};

@@ -2,9 +2,9 @@
 ghost use Rattle.std.specs.Prelude.{◌≡◌, ◌≢◌, ℕ, false};
 ghost use Rattle.syn_disk.specs.Armed.{armed};
 ghost use Rattle.syn_disk.specs.Arms.{is_stopped};
-ghost use Rattle.syn_headline.specs.Machine.{Down, unarmed};
-ghost use Rattle.syn_headline.specs.MachineSteps.{with_device};
-ghost use Rattle.syn_headline.specs.SideMachine.{SideMachine, side_kind};
+ghost use Rattle.syn_machine.specs.Machine.{Down, unarmed};
+ghost use Rattle.syn_machine.specs.MachineSteps.{with_device};
+ghost use Rattle.syn_machine.specs.SideMachine.{SideMachine, side_kind};
 ghost use Rattle.syn_journal.specs.Calls.{armed_at};
 ghost use Rattle.syn_replica.specs.Replica.{disk_of, tried_shown};
 

@@ -1,7 +1,7 @@
 //! A world goes by steps, and comes apart into its disks.
 ghost use Rattle.std.specs.Prelude.{◌≡◌, ◌<◌, ◌^◌, ℕ, List, OnErr, OnOk, map, true};
-ghost use Rattle.syn_headline.specs.Acknowledged.{Stores};
-ghost use Rattle.syn_headline.specs.World.{World as ModelWorld, Step as ModelStep};
+ghost use Rattle.syn_runs.specs.Acknowledged.{Stores};
+ghost use Rattle.syn_runs.specs.World.{World as ModelWorld, Step as ModelStep};
 
 use super::{Disks, World};
 use crate::SimulatedDisk;
@@ -10,8 +10,10 @@ use std::alloc::{AllocError, Global};
 
 impl<D: SimulatedDisk> World<D> {
     ghost use Rattle.syn_world.specs.Failures.{failures_in};
-    ghost use Rattle.syn_world.specs.Headlines.{HasRunSafely, MayRun};
+    ghost use Rattle.syn_promise.specs.Told.{Told};
+    ghost use Rattle.syn_world.specs.Headlines.{HasRunAll, MayRun};
     ghost use Rattle.syn_world.specs.Openings.{AreFree, HoldsDisks, StopsDisks};
+    ghost use Rattle.syn_world.specs.Promises.{KeepsPromise, LeavePromised};
     ghost use Rattle.syn_world.specs.Runs.{RunsSo, StepsSo};
     ghost use Rattle.syn_world.specs.Steps.{step_of};
     ghost use Rattle.syn_world.specs.Worlds.{AreLeft, HasMachines, IsWorld, is_spent};
@@ -67,9 +69,12 @@ impl<D: SimulatedDisk> World<D> {
         ensures free { (model : ModelWorld) → HasMachines self model
             → AreFree D.Limit.arms result }
 
-        // After a run, a world may run from them again.
-        ensures again { (pair : ℕ) (disks : Disks D) (stores : Stores) (steps : List ModelStep)
-            → pair < 2 ^ 64 → HasRunSafely pair disks stores steps self
+        // What the world keeps, its disks do: `recover` opens them, and a world may run from them.
+        ensures promised { (pair : ℕ) (before : Stores) (steps : List ModelStep) (told : Told)
+            → KeepsPromise pair before steps told self
+            → LeavePromised D.Limit.may_leave pair before steps told result }
+        ensures again { (pair : ℕ) (disks : Disks D) (before : Stores) (steps : List ModelStep)
+            → pair < 2 ^ 64 → HasRunAll pair disks before steps self
             → MayRun D.Limit.seen D.Limit.arms pair result }
     {
         let World {

@@ -1,6 +1,6 @@
 use Rattle.std.proofs.Common.{arith, inr, refl, subst, sym}
 use Rattle.std.proofs.lemmas.Result.{err_from_is_err_and}
-use Rattle.syn_headline.specs.Network.{Left}
+use Rattle.syn_machine.specs.Network.{Left}
 use Rattle.syn_command.proofs.AskedLemmas.{ended_so, endless_so, none_asked, one_asked, refused_so}
 use Rattle.syn_command.proofs.AskedLemmas.{scanned}
 use Rattle.syn_command.specs.Listings.{exchanges_of}

@@ -1,5 +1,5 @@
 use Rattle.std.proofs.Common.{arith}
-use Rattle.syn_headline.specs.Side.{IsPieceBytes}
+use Rattle.syn_machine.specs.Side.{IsPieceBytes}
 use Rattle.syn_message.proofs.WholeLemmas.{failed_whole, no_value}
 use Rattle.syn_message.proofs.request_reading.read_piece.Goals as goal
 use Rattle.syn_wire.specs.Events.{IsFile, file_spelling}

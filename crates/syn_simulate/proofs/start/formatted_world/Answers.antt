@@ -1,4 +1,4 @@
-use Rattle.syn_headline.specs.Headline.{formatted}
+use Rattle.syn_runs.specs.Headline.{formatted}
 use Rattle.syn_simulate.proofs.start.formatted_world.Goals as goal
 
 pub returns-in-Ok-clause-opened : goal.returns-in-Ok-clause-opened

@@ -1,6 +1,6 @@
 use Rattle.std.proofs.Common.{◌≡◌, ℕ, [], false}
 use Rattle.syn_disk.specs.Arms.{is_stopped}
-use Rattle.syn_headline.specs.Coordinator.{CoordinatorMachine}
+use Rattle.syn_machine.specs.Coordinator.{CoordinatorMachine}
 use Rattle.syn_coordinator.specs.Coordinators.{Stands, device_of}
 use Rattle.syn_sync.proofs.driver.end_if_running.Given as goal
 use Rattle.syn_sync.specs.inner.Calling.{Calls}

@@ -1,7 +1,7 @@
 use Rattle.std.proofs.Common.{◌≡◌, ◌∷◌, [], false, ap, arith, true}
 use Rattle.syn_archive.specs.Refusals.{refusal_of}
-use Rattle.syn_headline.specs.Coordinator.{coordinator_kind}
-use Rattle.syn_headline.specs.MachineSteps.{Checkpoint, Does, is_done, refuses}
+use Rattle.syn_machine.specs.Coordinator.{coordinator_kind}
+use Rattle.syn_machine.specs.MachineSteps.{Checkpoint, Does, is_done, refuses}
 use Rattle.syn_world.proofs.CallLemmas.{checkpoint_call, refused_call}
 use Rattle.syn_world.proofs.CoordinatorHostLemmas.{is_not_down}
 use Rattle.syn_world.proofs.CoordinatorOpenLemmas.{never_less}

@@ -1,7 +1,7 @@
 use Rattle.std.proofs.Common.{◌∙◌, ap, map, option_map}
-use Rattle.syn_headline.specs.Coordinator.{no_call}
+use Rattle.syn_machine.specs.Coordinator.{no_call}
 use Rattle.syn_world.specs.Outcomes.{causes_in}
-use Rattle.syn_headline.specs.MachineSteps.{refused_by}
+use Rattle.syn_machine.specs.MachineSteps.{refused_by}
 use Rattle.syn_coordinator.specs.Coordinators.{in_report}
 use Rattle.syn_session.specs.Reports.{report_model}
 use Rattle.syn_session.specs.Sendings.{messages_of}

@@ -1,12 +1,12 @@
 use Rattle.std.proofs.Common.{◌≡◌, arith}
-use Rattle.syn_headline.specs.Network.{Left, Right}
-use Rattle.syn_headline.specs.World.{At, Coordinator}
+use Rattle.syn_machine.specs.Network.{Left, Right}
+use Rattle.syn_runs.specs.World.{At, Coordinator}
 use Rattle.syn_world.specs.Failures.{CountAlike, failures_on}
-use Rattle.syn_world.specs.Headlines.{MayHold}
-use Rattle.syn_world.specs.Openings.{failed_calls, shown_on}
+use Rattle.syn_world.specs.Openings.{MayHold, failed_calls, shown_on}
 use Rattle.syn_world.specs.declared.world.Disks.{Disks}
-use Rattle.syn_world.proofs.HeadlineLemmas.{AreStopped, found, if_err, if_ok, might_hold, recovers}
-use Rattle.syn_world.proofs.HeadlineLemmas.{recovered_counts, stand}
+use Rattle.syn_world.proofs.HeadlineLemmas.{AreStopped, if_err, if_ok, might_hold, opens_again}
+use Rattle.syn_world.proofs.HeadlineLemmas.{recovered_counts, stand_stopped}
+use Rattle.syn_world.proofs.PromiseLemmas.{holds_as_promised}
 use Rattle.syn_world.proofs.headline.recover.Goals as goal
 
 -- the disks as they are found after the stop
@@ -30,34 +30,32 @@ are_stopped g c = record {
   archive = c.after_stop-3.ensures.arms;
 }
 
-pub returns-clause-opened : goal.returns-clause-opened
-returns-clause-opened g c before steps run fits safe =
-    let disks = c.args.disks in
-    let stopped = stopped_disks g c in
-    let is = are_stopped g c in
-    let stays = g.met.D.Disk.seen_may_stay in
-    if_ok c.open.result
-    (c.open.ensures.opened run.pair
-    (found g.D.Disk disks stopped is before steps run fits safe stays).now
-    (stand g.D.Disk disks stopped is before steps run fits safe stays))
-    (recovers g.D.Disk disks stopped is before steps run fits safe stays)
-
-pub returns-clause-refused : goal.returns-clause-refused
-returns-clause-refused g c before steps run fits safe =
-    let disks = c.args.disks in
-    let stopped = stopped_disks g c in
-    let is = are_stopped g c in
-    let stays = g.met.D.Disk.seen_may_stay in
-    c.open.ensures.refused run.pair
-    (found g.D.Disk disks stopped is before steps run fits safe stays).now
-    (stand g.D.Disk disks stopped is before steps run fits safe stays)
-
 -- what the stopped disks show might have been left by a stop
 shown_is : (g : _) (c : goal.After-open g) → MayHold g.D.Disk.may_leave c.args.disks
     (shown_on g.D.Disk.seen (stopped_disks g c))
 shown_is g c =
     might_hold g.D.Disk c.args.disks (stopped_disks g c) (are_stopped g c)
     g.met.D.Disk.seen_may_stay
+
+pub returns-clause-promised : goal.returns-clause-promised
+returns-clause-promised g c pair before steps told fits leaves =
+    let shown = shown_on g.D.Disk.seen (stopped_disks g c) in
+    let found = leaves shown (shown_is g c) in
+    if_ok c.open.result (c.open.ensures.opened pair found.now (stand_stopped g.D.Disk c.args.disks
+    (stopped_disks g c) (are_stopped g c) pair found.now fits found.stand))
+    (holds_as_promised pair before steps told shown found)
+
+pub returns-clause-refused : goal.returns-clause-refused
+returns-clause-refused g c pair before steps told fits leaves =
+    let found = leaves (shown_on g.D.Disk.seen (stopped_disks g c)) (shown_is g c) in
+    c.open.ensures.refused pair found.now (stand_stopped g.D.Disk c.args.disks (stopped_disks g c)
+    (are_stopped g c) pair found.now fits found.stand)
+
+pub returns-clause-opened : goal.returns-clause-opened
+returns-clause-opened g c =
+    opens_again c.args.disks (shown_on g.D.Disk.seen (stopped_disks g c)) (shown_is g c)
+    c.open.result (λ pair now fits stand. c.open.ensures.opened pair now (stand_stopped g.D.Disk
+    c.args.disks (stopped_disks g c) (are_stopped g c) pair now fits stand))
 
 pub returns-clause-pair : goal.returns-clause-pair
 returns-clause-pair g c =

@@ -1,5 +1,5 @@
 use Rattle.std.proofs.Common.{inr, subst, sym, ◌∙◌}
-use Rattle.syn_headline.specs.Side.{Begin, Refused}
+use Rattle.syn_machine.specs.Side.{Begin, Refused}
 use Rattle.syn_agent.proofs.BeginLemmas.{begun_answers, begun_refused, begun_takes}
 use Rattle.syn_agent.proofs.CauseLemmas.{counts, none_of, refused_one}
 use Rattle.syn_agent.proofs.agent.Agent.begin.Goals as goal

@@ -3,7 +3,7 @@ use Rattle.syn_agent.proofs.CauseLemmas.{none_of}
 use Rattle.syn_agent.proofs.ReadingLemmas.{fetch_takes, is_piece, is_refused, no_memory}
 use Rattle.syn_agent.proofs.agent.Agent.fetch.Goals as goal
 use Rattle.syn_agent.specs.Answers.{Answers}
-use Rattle.syn_headline.specs.Side.{Fetch, Refused}
+use Rattle.syn_machine.specs.Side.{Fetch, Refused}
 use Rattle.syn_model.specs.Event.{AreBytes}
 
 pub returns-in-Ok-clause-answers : goal.returns-in-Ok-clause-answers

@@ -5,7 +5,7 @@ use Rattle.syn_replica.proofs.RefusalLemmas.{halted_is}
 use Rattle.syn_agent.proofs.ReadingLemmas.{is_listing, is_there, no_device}
 use Rattle.syn_agent.proofs.ReadingLemmas.{no_memory, own_absent, reading, running}
 use Rattle.syn_agent.proofs.agent.Agent.list.Goals as goal
-use Rattle.syn_headline.specs.Side.{ListAt, Refused}
+use Rattle.syn_machine.specs.Side.{ListAt, Refused}
 use Rattle.syn_model.specs.History.{History, tree_of}
 use Rattle.syn_model.specs.Refusal as why
 use Rattle.syn_model.specs.Tree.{is_directory}

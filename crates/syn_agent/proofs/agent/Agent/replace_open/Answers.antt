@@ -5,7 +5,7 @@ use Rattle.syn_agent.proofs.ReplaceLemmas.{staging_memory, unmade_answers, unrea
 use Rattle.syn_agent.proofs.agent.Agent.replace_open.Goals as goal
 use Rattle.syn_agent.specs.Answers.{Answers}
 use Rattle.syn_agent.specs.Causes.{CountsFailures}
-use Rattle.syn_headline.specs.Side.{Reads, Refused, Replace}
+use Rattle.syn_machine.specs.Side.{Reads, Refused, Replace}
 use Rattle.syn_model.specs.Refusal.{Memory}
 use Rattle.syn_history.specs.Events.{token_of}
 use Rattle.syn_agent.specs.Agents.{staging_of}

@@ -4,7 +4,7 @@ use Rattle.syn_agent.proofs.StageLemmas.{stage_answers, stage_device, stage_lawf
 use Rattle.syn_agent.proofs.agent.Agent.serve.Goals as goal
 use Rattle.syn_agent.specs.Agents.{side_of}
 use Rattle.syn_agent.specs.Answers.{Answers, room_for}
-use Rattle.syn_headline.specs.Side.{Stage, TakesMemory, token_of}
+use Rattle.syn_machine.specs.Side.{Stage, TakesMemory, token_of}
 use Rattle.syn_message.specs.Replies.{reply_of}
 use Rattle.syn_message.specs.Requests.{request_of}
 use Rattle.syn_replica.specs.Growing.{itself}

@@ -1,8 +1,8 @@
 use Rattle.std.proofs.Common.{◌≡◌, ℕ, true, refl, sym, subst, ap, ◌∙◌, None, Some, inl}
 use Rattle.std.specs.Prelude.{Result, is_some}
-use Rattle.syn_headline.specs.Coordinator.{CoordinatorMachine, Exchange, IsExpected, Running}
-use Rattle.syn_headline.specs.Network.{Left, Right, Which}
-use Rattle.syn_headline.specs.Side.{Request}
+use Rattle.syn_machine.specs.Coordinator.{CoordinatorMachine, Exchange, IsExpected, Running}
+use Rattle.syn_machine.specs.Network.{Left, Right, Which}
+use Rattle.syn_machine.specs.Side.{Request}
 use Rattle.syn_message.specs.Replies.{reply_of}
 use Rattle.syn_message.specs.Requests.{request_of}
 use Rattle.syn_message.specs.declared.request.RequestMessage.{RequestMessage}

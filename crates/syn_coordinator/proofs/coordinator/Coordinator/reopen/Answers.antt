@@ -1,9 +1,9 @@
 use Rattle.std.proofs.Common.{List, Some, subst, refl, sym}
-use Rattle.syn_headline.specs.Machine.{Up}
+use Rattle.syn_machine.specs.Machine.{Up}
 use Rattle.std.specs.Prelude.{option_map}
 use Rattle.syn_image.specs.Archives.{kept_of}
 use Rattle.syn_model.specs.Archive.{Kept}
-use Rattle.syn_headline.specs.MachineSteps.{no_memory_to_reopen, reopen_fails}
+use Rattle.syn_machine.specs.MachineSteps.{no_memory_to_reopen, reopen_fails}
 use Rattle.syn_model.proofs.ExitLemmas.{if_err_of_exit}
 use Rattle.syn_coordinator.specs.Steps.{Moves}
 use Rattle.syn_archive.specs.Archive.{disk_of}

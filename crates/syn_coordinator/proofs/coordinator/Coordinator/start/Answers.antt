@@ -1,7 +1,7 @@
 use Rattle.std.proofs.Common.{◌≡◌, ◌≢◌, ◌<◌, ◌^◌, ◌+◌, [], ◌∷◌, Some, Err, inl, inr}
 use Rattle.std.proofs.Common.{sym, ap, ap₂, ◌∙◌, subst, true, option_map}
-use Rattle.syn_headline.specs.Coordinator.{CoordinatorStarts}
-use Rattle.syn_headline.specs.Machine.{Up, Halted}
+use Rattle.syn_machine.specs.Coordinator.{CoordinatorStarts}
+use Rattle.syn_machine.specs.Machine.{Up, Halted}
 use Rattle.syn_model.specs.Archive.{Session}
 use Rattle.syn_model.specs.Refusal as why
 use Rattle.syn_model.specs.Refusal.{first_cause}

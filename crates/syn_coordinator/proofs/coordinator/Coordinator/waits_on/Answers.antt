@@ -1,7 +1,7 @@
 use Rattle.std.proofs.Common.{◌≡◌, ◌∙◌, Option, Some, None, ap, false, length, nat_lt, refl, sym}
 use Rattle.std.proofs.Common.{subst}
-use Rattle.syn_headline.specs.Coordinator.{Running}
-use Rattle.syn_headline.specs.Network.{Which}
+use Rattle.syn_machine.specs.Coordinator.{Running}
+use Rattle.syn_machine.specs.Network.{Which}
 use Rattle.syn_path.specs.Sides.{which_of}
 use Rattle.syn_session.specs.Sessions.{IsRunning}
 use Rattle.syn_session.specs.Stages.{peer_of, waiting_of}

@@ -1,5 +1,5 @@
 use Rattle.std.proofs.Common.{[], ◌∷◌, ◌++◌, sym, ap, ◌∙◌, subst, ap₂}
-use Rattle.syn_headline.specs.Network.{Left, Right}
+use Rattle.syn_machine.specs.Network.{Left, Right}
 use Rattle.syn_model.specs.Archive.{Archive}
 use Rattle.syn_model.specs.Plan.{plan}
 use Rattle.syn_scan.specs.Found.{scan_of}

@@ -1,6 +1,6 @@
 use Rattle.std.proofs.Common.{◌≡◌, ◌∙◌, None, Some, refl, subst, sym}
 use Rattle.std.proofs.lemmas.Option.{none-some}
-use Rattle.syn_headline.specs.Session.{fault_of}
+use Rattle.syn_machine.specs.Session.{fault_of}
 use Rattle.syn_message.specs.Replies.{reply_of}
 use Rattle.syn_propagate.specs.Transfers.{EndsBy, Follows, spec_of, with_answer}
 use Rattle.syn_session.specs.Answering.{exchange_of}

@@ -2,7 +2,7 @@ use Rattle.std.proofs.Common.{◌∷◌, ◌∙◌, ◌+◌, ◌<◌, [], Err, O
 use Rattle.std.proofs.Common.{subst, sym}
 use Rattle.syn_archive.specs.Refusals.{refusal_of}
 use Rattle.syn_archive.specs.Machines.{KeepsRecord}
-use Rattle.syn_headline.specs.Machine.{Halted, Up}
+use Rattle.syn_machine.specs.Machine.{Halted, Up}
 use Rattle.syn_journal.specs.Endings.{CountsFailures as Counts}
 use Rattle.syn_coordinator.specs.Steps.{KeepsSo}
 use Rattle.syn_coordinator.specs.Machines.{IsMachine}

@@ -2,7 +2,7 @@ use Rattle.std.proofs.Common.{sym, ◌∙◌, subst}
 use Rattle.syn_message.specs.Replies.{reply_of}
 use Rattle.syn_message.specs.Requests.{request_of}
 use Rattle.syn_path.specs.Sides.{which_of}
-use Rattle.syn_headline.specs.Coordinator.{hearing}
+use Rattle.syn_machine.specs.Coordinator.{hearing}
 use Rattle.syn_session.specs.Answering.{exchange_of}
 use Rattle.syn_session.specs.Hearing.{ScansOn}
 use Rattle.syn_session.proofs.HearingLemmas.{not_last}

@@ -1,5 +1,5 @@
 use Rattle.std.proofs.Common.{ℕ, List}
-use Rattle.syn_headline.specs.Coordinator.{Exchange}
+use Rattle.syn_machine.specs.Coordinator.{Exchange}
 use Rattle.syn_coordinator.specs.PlanRunners.{BreaksNothing}
 use Rattle.syn_coordinator.specs.Machines.{IsMachine, Journal}
 use Rattle.syn_coordinator.specs.inner.Settling.{HasCome, IsQuiet}

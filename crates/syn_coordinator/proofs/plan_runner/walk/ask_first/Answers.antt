@@ -1,5 +1,5 @@
 use Rattle.std.proofs.Common.{refl, subst, sym}
-use Rattle.syn_headline.specs.Side.{Staged}
+use Rattle.syn_machine.specs.Side.{Staged}
 use Rattle.syn_propagate.specs.Transfers.{Follows}
 use Rattle.syn_session.specs.Carrying.{AsksOne}
 use Rattle.syn_session.specs.declared.session.Asks.TheVariants.{One}

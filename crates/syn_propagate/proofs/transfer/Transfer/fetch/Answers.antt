@@ -1,4 +1,4 @@
-use Rattle.syn_headline.specs.Side.{Fetch}
+use Rattle.syn_machine.specs.Side.{Fetch}
 use Rattle.syn_propagate.proofs.AskLemmas.{asked, asks_fetch}
 use Rattle.syn_propagate.proofs.transfer.Transfer.fetch.Goals as goal
 

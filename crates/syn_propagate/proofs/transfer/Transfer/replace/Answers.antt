@@ -1,4 +1,4 @@
-use Rattle.syn_headline.specs.Side.{Replace}
+use Rattle.syn_machine.specs.Side.{Replace}
 use Rattle.syn_propagate.proofs.AskLemmas.{asked, asks_replace}
 use Rattle.syn_propagate.proofs.transfer.Transfer.replace.Goals as goal
 

@@ -1,6 +1,6 @@
 use Rattle.std.proofs.Common.{◌≡◌, ◌∙◌, Ok, Some, None, ap, subst, sym}
-use Rattle.syn_headline.specs.Coordinator.{is_last}
-use Rattle.syn_headline.specs.Session.{fault_of}
+use Rattle.syn_machine.specs.Coordinator.{is_last}
+use Rattle.syn_machine.specs.Session.{fault_of}
 use Rattle.syn_message.specs.Replies.{reply_of}
 use Rattle.syn_propagate.proofs.StepLemmas.{Answers, after_done, after_piece, after_staged}
 use Rattle.syn_propagate.proofs.StepLemmas.{same_answer}

@@ -1,7 +1,7 @@
 use Rattle.std.proofs.Common.{◌≡◌, ◌≢◌, ◌≤◌, arith, length, subst, sym, true, vec_len}
 use Rattle.std.proofs.lemmas.Bool.{eqb-false, eqb-true}
-use Rattle.syn_headline.specs.Session.{fits_piece}
-use Rattle.syn_headline.specs.Side.{IsLawfulBody, Stage}
+use Rattle.syn_machine.specs.Session.{fits_piece}
+use Rattle.syn_machine.specs.Side.{IsLawfulBody, Stage}
 use Rattle.syn_model.specs.Path.{Bytes}
 use Rattle.syn_propagate.proofs.AskLemmas.{asked, asks_stage, goes_on, no_fault, whole_of_none}
 use Rattle.syn_propagate.proofs.transfer.Transfer.take_piece.Goals as goal

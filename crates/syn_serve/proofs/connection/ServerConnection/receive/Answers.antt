@@ -14,6 +14,7 @@ returns-in_err-body-clause-closes g c =
       given = g.R.Read.remaining (reader_of c.receive.new.self);
       held = held_by c.receive.new.self;
       agent = (state c.args.self.now).agent;
+      begun = (state c.args.self.now).begun;
       written = g.W.Write.contents (writer_of c.receive.new.self);
     }) c.in_err-body.ensures.fault)
 

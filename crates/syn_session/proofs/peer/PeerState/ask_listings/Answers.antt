@@ -2,8 +2,8 @@ use Rattle.std.proofs.Common.{◌≡◌, ◌+◌, ◌∙◌, ◌++◌, ◌∷◌
 use Rattle.std.proofs.Common.{length, map, arith, rules}
 use Rattle.std.proofs.lemmas.Grind.{common_steps}
 use Rattle.std.proofs.lemmas.List.{map-append}
-use Rattle.syn_headline.specs.Coordinator.{messages_to, numbered}
-use Rattle.syn_headline.specs.Side.{ListAt}
+use Rattle.syn_machine.specs.Coordinator.{messages_to, numbered}
+use Rattle.syn_machine.specs.Side.{ListAt}
 use Rattle.syn_path.specs.Sides.{which_of}
 use Rattle.syn_session.specs.Answering.{IsAskedOn}
 use Rattle.syn_session.specs.Sendings.{messages_of}

@@ -1,7 +1,7 @@
 use Rattle.std.proofs.Common.{◌∙◌, ap, sym}
 use Rattle.std.specs.List.{list_any}
 use Rattle.std.specs.Prelude.{nat_le}
-use Rattle.syn_headline.specs.Coordinator.{most_resends}
+use Rattle.syn_machine.specs.Coordinator.{most_resends}
 use Rattle.syn_session.specs.declared.requests.UnansweredRequest.{UnansweredRequest}
 use Rattle.syn_session.proofs.WaitingLemmas.{worn_same}
 use Rattle.syn_session.proofs.peer.PeerState.is_worn.Goals as goal

@@ -36,7 +36,7 @@ window-preserved c =
           (out_contains (out_of old.scan) path waits)) Rattle.std.proofs.Common.refl;
       shown =
           λ side taken f. subst (λ o. IfSome o
-          (λ p. Rattle.syn_headline.specs.Session.IsShown taken side p)) c.in-Some.is
+          (λ p. Rattle.syn_machine.specs.Session.IsShown taken side p)) c.in-Some.is
           (c.in_ok-path.ensures.shown side taken
           (subst (λ g. IsFoundIn g side taken) (sym was.found) f));
     } in

@@ -1,5 +1,5 @@
 use Rattle.std.proofs.Common.{ap, refl, sym, arith, option_map}
-use Rattle.syn_headline.specs.Report.{is_carrying, is_marking}
+use Rattle.syn_machine.specs.Report.{is_carrying, is_marking}
 use Rattle.syn_session.specs.Plans.{planned_all}
 use Rattle.syn_recon.specs.Items.{items_of}
 use Rattle.syn_session.proofs.TallyLemmas.{none_recorded, nothing_counted}

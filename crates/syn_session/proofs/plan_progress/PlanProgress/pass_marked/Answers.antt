@@ -1,5 +1,5 @@
 use Rattle.std.proofs.Common.{not, refl, ap, ◌∙◌}
-use Rattle.syn_headline.specs.Report.{is_carrying, is_marking}
+use Rattle.syn_machine.specs.Report.{is_carrying, is_marking}
 use Rattle.syn_session.proofs.ProgressLemmas.{record_is, count_fits, counts_none, counts_one}
 use Rattle.syn_session.proofs.ProgressLemmas.{progress_recorded, cursor_fits, marks_else}
 use Rattle.syn_session.proofs.ProgressLemmas.{no_conflict}

@@ -1,5 +1,5 @@
 use Rattle.std.proofs.Common.{refl}
-use Rattle.syn_headline.specs.Network.{Which, Left, Right}
+use Rattle.syn_machine.specs.Network.{Which, Left, Right}
 use Rattle.syn_session.specs.Stages.{peer_of}
 use Rattle.syn_session.proofs.SessionLemmas.{SentAgain, resent_so}
 use Rattle.syn_session.proofs.session.Session.count_resend.Goals as goal

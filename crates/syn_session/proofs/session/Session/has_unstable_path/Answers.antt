@@ -1,5 +1,5 @@
 use Rattle.std.proofs.Common.{◌∙◌, ◌||◌, ap, sym}
-use Rattle.syn_headline.specs.Network.{Right}
+use Rattle.syn_machine.specs.Network.{Right}
 use Rattle.syn_session.specs.Scanning.{shows_unstable}
 use Rattle.syn_session.specs.Stages.{found_on}
 use Rattle.syn_session.proofs.TellingLemmas.{took_by_scans}

@@ -1,8 +1,8 @@
 use Rattle.std.proofs.Common.{◌≡◌, ◌∙◌, [], ap, length, map, refl, rules, sym, inl}
 use Rattle.std.specs.Prelude.{nat_lt}
-use Rattle.syn_headline.specs.Coordinator.{hearing}
-use Rattle.syn_headline.specs.Network.{Left, Right, Which}
-use Rattle.syn_headline.specs.Side.{Begin, ListAt}
+use Rattle.syn_machine.specs.Coordinator.{hearing}
+use Rattle.syn_machine.specs.Network.{Left, Right, Which}
+use Rattle.syn_machine.specs.Side.{Begin, ListAt}
 use Rattle.syn_message.specs.Replies.{reply_of}
 use Rattle.syn_path.specs.Sides.{which_of}
 use Rattle.syn_session.specs.Answering.{asks_of, exchange_of}

@@ -1,8 +1,8 @@
 use Rattle.std.proofs.Common.{◌≡◌, ap, refl, rules}
-use Rattle.syn_headline.specs.Side.{ListAt}
+use Rattle.syn_machine.specs.Side.{ListAt}
 use Rattle.syn_message.specs.Replies.{reply_of}
 use Rattle.syn_path.specs.Sides.{which_of}
-use Rattle.syn_headline.proofs.StagedLemmas.{on_both}
+use Rattle.syn_machine.proofs.NetworkLemmas.{on_both}
 use Rattle.syn_session.specs.Hearing.{at_once}
 use Rattle.syn_session.specs.Scanning.{found_of}
 use Rattle.syn_session.specs.Stages.{found_on}

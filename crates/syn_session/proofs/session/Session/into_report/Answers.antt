@@ -1,6 +1,6 @@
 use Rattle.std.proofs.Common.{◌≡◌, arith, rules, sym}
 use Rattle.std.proofs.lemmas.Grind.{common_steps}
-use Rattle.syn_headline.specs.Coordinator.{took_not_dir}
+use Rattle.syn_machine.specs.Coordinator.{took_not_dir}
 use Rattle.syn_session.proofs.session.Session.into_report.Goals as goal
 
 pub returns-in-Some : goal.returns-in-Some

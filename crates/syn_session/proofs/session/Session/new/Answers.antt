@@ -1,6 +1,6 @@
 use Rattle.std.proofs.Common.{◌≡◌, ◌++◌, ◌∙◌, [], ap, ap₂, refl, option_map}
-use Rattle.syn_headline.specs.Coordinator.{messages_to}
-use Rattle.syn_headline.specs.Network.{Which, Left, Right}
+use Rattle.syn_machine.specs.Coordinator.{messages_to}
+use Rattle.syn_machine.specs.Network.{Which, Left, Right}
 use Rattle.syn_session.specs.Scanning.{IsFoundIn, found_of, out_of}
 use Rattle.syn_session.specs.declared.peer.PeerState.{PeerState}
 use Rattle.syn_session.specs.Sessions.{begin_of}

@@ -1,6 +1,6 @@
 use Rattle.std.proofs.Common.{◌≡◌, ◌⊎◌, None, Some, MatchResult, subst, sym}
-use Rattle.syn_headline.specs.Session.{fault_of}
-use Rattle.syn_headline.specs.Side.{ListAt}
+use Rattle.syn_machine.specs.Session.{fault_of}
+use Rattle.syn_machine.specs.Side.{ListAt}
 use Rattle.syn_message.specs.Replies.{reply_of}
 use Rattle.syn_path.specs.Sides.{which_of}
 use Rattle.syn_model.specs.Refusal.{Memory}

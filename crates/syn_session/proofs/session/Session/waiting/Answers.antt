@@ -1,5 +1,5 @@
 use Rattle.std.proofs.Common.{◌++◌, ◌∙◌, ap}
-use Rattle.syn_headline.specs.Network.{Left, Right}
+use Rattle.syn_machine.specs.Network.{Left, Right}
 use Rattle.syn_session.specs.Sendings.{messages_of, messages_waiting}
 use Rattle.syn_session.proofs.SessionLemmas.{messages_resent}
 use Rattle.syn_session.proofs.session.Session.waiting.Goals as goal

@@ -1,5 +1,5 @@
 use Rattle.std.proofs.lemmas.Result.{IfOk-weaker}
-use Rattle.syn_headline.specs.Session.{IsShown}
+use Rattle.syn_machine.specs.Session.{IsShown}
 use Rattle.syn_scan.specs.Found.{IsShownIn}
 use Rattle.syn_session.specs.Scanning.{found_of}
 use Rattle.syn_session.proofs.ScanningLemmas.{shown_to, each_some}

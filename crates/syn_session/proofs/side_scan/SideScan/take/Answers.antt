@@ -3,8 +3,8 @@ use Rattle.syn_model.specs.Refusal.{Memory}
 use Rattle.syn_scan.specs.Refusals.{refusal_of}
 use Rattle.std.proofs.lemmas.List.{length-map}
 use Rattle.std.proofs.Common.{◌+◌, ◌≡◌, ◌⊎◌, Some, sym, ap, subst, ◌∙◌}
-use Rattle.syn_headline.specs.Session.{fault_of}
-use Rattle.syn_headline.specs.Side.{ListAt, Listed, NotDir}
+use Rattle.syn_machine.specs.Session.{fault_of}
+use Rattle.syn_machine.specs.Side.{ListAt, Listed, NotDir}
 use Rattle.syn_message.specs.Replies.{reply_of, IsLawfulReply}
 use Rattle.syn_scan.specs.Asked.{contents_in, ListsOnly}
 use Rattle.syn_scan.specs.Found.{Found}

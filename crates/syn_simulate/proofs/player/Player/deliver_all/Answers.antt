@@ -1,6 +1,6 @@
 use Rattle.std.proofs.Common.{◌≡◌, ◌-◌, ◌+◌, arith, inl, inr, map, refl, subst, sym}
 use Rattle.std.specs.List.{range_with_len}
-use Rattle.syn_headline.specs.World.{Deliver}
+use Rattle.syn_runs.specs.World.{Deliver}
 use Rattle.syn_simulate.specs.States.{Moves}
 use Rattle.syn_simulate.proofs.LoopLemmas.{number_cut, number_end, number_on, number_unsent}
 use Rattle.syn_simulate.specs.Lines.{Says, deliveries}

@@ -1,6 +1,6 @@
 use Rattle.std.proofs.Common.{◌≡◌, ◌≤◌, ◌+◌, ◌-◌, ◌⊎◌, map}
 use Rattle.std.specs.List.{range_with_len}
-use Rattle.syn_headline.specs.World.{Deliver}
+use Rattle.syn_runs.specs.World.{Deliver}
 use Rattle.syn_simulate.specs.Players.{IsPlayer}
 use Rattle.syn_simulate.specs.States.{State}
 use Rattle.syn_simulate.proofs.LoopLemmas.{HasMoved}

@@ -53,6 +53,23 @@ returns-in_default-receive g c = λ pair machine stands.
           c.receive.ensures.written),
     )
 
+-- the watch wants no more
+pub returns-then-not-heard : goal.returns-then-not-heard
+returns-then-not-heard g c = λ pair machine stands.
+    let outlets = outlets_of {R = g.row.R.Denot} {W = g.row.W.Denot} g.W.Write.contents in
+    let states = states_of {R = g.row.R.Denot} {W = g.row.W.Denot} g.R.Read.remaining in
+    let here = c.loop.invariant.drives pair machine stands in
+    let calm = c.loop.invariant.calm in (
+      states c.loop.self,
+      drives_twice c.loop.coordinator c.loop.coordinator pair machine (states c.args.self.now)
+          (states c.loop.self) (states c.loop.self) (outlets c.args.self.now)
+          (outlets c.loop.self) (outlets c.receive.new.self) here calm
+          (drives_none c.loop.coordinator pair here.reached (states c.loop.self)
+          (outlets c.loop.self) (outlets c.receive.new.self)
+          (stands_of c.loop.coordinator pair here.reached here.ends calm) calm
+          c.receive.ensures.written),
+    )
+
 -- the machine is stopped as it takes a reply
 pub returns-then-is_cut : goal.returns-then-is_cut
 returns-then-is_cut g c = λ pair machine stands.

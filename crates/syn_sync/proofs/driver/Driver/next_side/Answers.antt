@@ -1,7 +1,7 @@
 use Rattle.std.proofs.Common.{◌≡◌, Option, None, Some, sym, true}
 use Rattle.std.specs.Prelude.{IfSome}
 use Rattle.syn_coordinator.specs.Coordinators.{is_waiting}
-use Rattle.syn_headline.specs.Session.{Running}
+use Rattle.syn_machine.specs.Session.{Running}
 use Rattle.syn_path.specs.Sides.{which_of}
 use Rattle.syn_path.specs.declared.side.Side.{Side}
 use Rattle.syn_path.specs.declared.side.Side.TheVariants.{Left, Right}

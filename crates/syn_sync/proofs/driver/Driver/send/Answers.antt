@@ -1,5 +1,5 @@
 use Rattle.std.proofs.Common.{refl, subst, sym}
-use Rattle.syn_headline.specs.Network.{Asks, Left, Right, Which}
+use Rattle.syn_machine.specs.Network.{Asks, Left, Right, Which}
 use Rattle.syn_link.specs.Frames.{frame_of}
 use Rattle.syn_message.specs.Requests.{request_message_of, request_spelling, request_of}
 use Rattle.syn_message.specs.declared.request.RequestMessage.{RequestMessage}

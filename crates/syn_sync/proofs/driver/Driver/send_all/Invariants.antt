@@ -1,5 +1,5 @@
 use Rattle.std.proofs.Common.{◌≡◌, take}
-use Rattle.syn_headline.specs.Network.{Which}
+use Rattle.syn_machine.specs.Network.{Which}
 use Rattle.syn_session.specs.Sendings.{messages_of}
 use Rattle.syn_sync.proofs.driver.Driver.send_all.Given as goal
 use Rattle.syn_sync.specs.Drivers.{states_of, outlets_of}

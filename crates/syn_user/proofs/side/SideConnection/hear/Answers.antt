@@ -1,5 +1,5 @@
 use Rattle.std.proofs.Common.{◌≡◌, ap, rules, sym, subst, ◌∙◌, ap₂, Some}
-use Rattle.syn_headline.specs.Side as model
+use Rattle.syn_machine.specs.Side as model
 use Rattle.syn_link.specs.Connections.{held_by, reader_of}
 use Rattle.syn_link.specs.Streams.{Comes}
 use Rattle.syn_message.specs.Replies.{ReplyMessage, IsLawfulReplyMessage, IsLawfulReply}

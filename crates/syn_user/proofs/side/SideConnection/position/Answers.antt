@@ -1,5 +1,5 @@
 use Rattle.std.proofs.Common.{subst}
-use Rattle.syn_headline.specs.Side.{ListAt}
+use Rattle.syn_machine.specs.Side.{ListAt}
 use Rattle.syn_message.specs.Replies.{reply_of}
 use Rattle.syn_model.proofs.ExitLemmas.{if_err_of_exit}
 use Rattle.syn_user.proofs.SideLemmas.{rootless_so}

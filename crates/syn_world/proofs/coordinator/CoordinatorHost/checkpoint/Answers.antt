@@ -1,7 +1,7 @@
 use Rattle.std.proofs.Common.{refl, sym, subst}
 use Rattle.syn_world.specs.Coordinators.{IsCoordinator, archive_disk}
-use Rattle.syn_headline.specs.Coordinator.{coordinator_kind}
-use Rattle.syn_headline.specs.MachineSteps.{Checkpoint, Does, is_down}
+use Rattle.syn_machine.specs.Coordinator.{coordinator_kind}
+use Rattle.syn_machine.specs.MachineSteps.{Checkpoint, Does, is_down}
 use Rattle.syn_world.specs.CoordinatorSteps.{CallIsStep}
 use Rattle.syn_world.proofs.CallLemmas.{refused_call}
 use Rattle.syn_world.proofs.CountLemmas.{down_still}

@@ -1,8 +1,8 @@
 use Rattle.std.proofs.Common.{◌∙◌, ap, arith, subst}
 use Rattle.syn_disk.specs.Arms.{is_stopped}
-use Rattle.syn_headline.specs.Coordinator.{coordinator_kind}
-use Rattle.syn_headline.specs.Machine.{Arms}
-use Rattle.syn_headline.specs.MachineSteps.{arming, is_done, is_down, with_device}
+use Rattle.syn_machine.specs.Coordinator.{coordinator_kind}
+use Rattle.syn_machine.specs.Machine.{Arms}
+use Rattle.syn_machine.specs.MachineSteps.{arming, is_done, is_down, with_device}
 use Rattle.syn_world.specs.Coordinators.{IsCoordinator, archive_disk}
 use Rattle.syn_journal.specs.Calls.{armed_at}
 use Rattle.syn_coordinator.specs.Coordinators.{Stands}

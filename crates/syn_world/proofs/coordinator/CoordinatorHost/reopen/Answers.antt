@@ -1,6 +1,6 @@
 use Rattle.std.proofs.Common.{ap, arith, subst, sym}
-use Rattle.syn_headline.specs.Coordinator.{coordinator_kind}
-use Rattle.syn_headline.specs.MachineSteps.{Does, Reopen, is_down}
+use Rattle.syn_machine.specs.Coordinator.{coordinator_kind}
+use Rattle.syn_machine.specs.MachineSteps.{Does, Reopen, is_down}
 use Rattle.syn_world.specs.CoordinatorOpenings.{OpeningIsStep}
 use Rattle.syn_world.specs.Coordinators.{IsCoordinator, archive_disk}
 use Rattle.syn_world.proofs.coordinator.CoordinatorHost.reopen.Goals as goal

@@ -2,9 +2,9 @@ use Rattle.std.proofs.Common.{◌≡◌, ◌≢◌, ◌∙◌, [], ℕ, false, S
 use Rattle.std.proofs.lemmas.Bool.Decides.{nat_tests}
 use Rattle.std.specs.Prelude.{◌==◌, if◌then◌else◌}
 use Rattle.syn_disk.specs.Arms.{is_stopped}
-use Rattle.syn_headline.specs.Coordinator.{coordinator_kind, no_call}
-use Rattle.syn_headline.specs.Machine.{Arms, Down, unarmed}
-use Rattle.syn_headline.specs.MachineSteps.{Does, Stop, arming, is_done, with_device}
+use Rattle.syn_machine.specs.Coordinator.{coordinator_kind, no_call}
+use Rattle.syn_machine.specs.Machine.{Arms, Down, unarmed}
+use Rattle.syn_machine.specs.MachineSteps.{Does, Stop, arming, is_done, with_device}
 use Rattle.syn_world.specs.Coordinators.{IsCoordinator, archive_disk}
 use Rattle.syn_journal.specs.Calls.{armed_at}
 use Rattle.syn_coordinator.specs.Coordinators.{Stands, device_of, tried_shown}

@@ -1,5 +1,5 @@
 use Rattle.std.proofs.Common.{refl, sym, subst}
-use Rattle.syn_headline.specs.Coordinator.{CoordinatorTicks, no_session}
+use Rattle.syn_machine.specs.Coordinator.{CoordinatorTicks, no_session}
 use Rattle.syn_world.specs.Coordinators.{IsCoordinator, archive_disk}
 use Rattle.syn_world.specs.CoordinatorSteps.{CallIsStep, Unrefused}
 use Rattle.syn_world.proofs.CallLemmas.{refused_call}

@@ -1,7 +1,7 @@
 use Rattle.std.proofs.Common.{[], ◌∷◌, arith, subst, sym}
 use Rattle.syn_archive.specs.Refusals.{refusal_of}
-use Rattle.syn_headline.specs.Coordinator.{coordinator_kind, no_call}
-use Rattle.syn_headline.specs.MachineSteps.{OpensDown}
+use Rattle.syn_machine.specs.Coordinator.{coordinator_kind, no_call}
+use Rattle.syn_machine.specs.MachineSteps.{OpensDown}
 use Rattle.syn_journal.proofs.Spent.{counted}
 use Rattle.syn_world.proofs.CoordinatorOpenLemmas.{counts_by, never_less, not_nine, opening_counts}
 use Rattle.syn_world.proofs.CoordinatorOpenLemmas.{which_nine}

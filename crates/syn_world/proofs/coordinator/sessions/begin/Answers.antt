@@ -1,7 +1,7 @@
 use Rattle.std.proofs.Common.{◌≡◌, ◌∷◌, [], ◌∙◌, Err, false, ap, arith, subst, sym, true}
 use Rattle.std.proofs.Common.{option_map}
-use Rattle.syn_headline.specs.Coordinator.{CoordinatorStarts, Starts}
-use Rattle.syn_headline.specs.MachineSteps.{is_done, refuses}
+use Rattle.syn_machine.specs.Coordinator.{CoordinatorStarts, Starts}
+use Rattle.syn_machine.specs.MachineSteps.{is_done, refuses}
 use Rattle.syn_coordinator.specs.Coordinators.{Does, written}
 use Rattle.syn_session.specs.Sendings.{messages_of}
 use Rattle.syn_world.proofs.CallLemmas.{refused_call, start_call}

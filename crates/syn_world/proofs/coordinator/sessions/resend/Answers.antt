@@ -1,6 +1,6 @@
 use Rattle.std.proofs.Common.{◌∙◌, [], ap, refl}
 use Rattle.std.specs.Prelude.{◌&&◌, if◌then◌else◌, not}
-use Rattle.syn_headline.specs.Coordinator.{no_call}
+use Rattle.syn_machine.specs.Coordinator.{no_call}
 use Rattle.syn_world.specs.CoordinatorSteps.{refuses_nothing}
 use Rattle.syn_coordinator.specs.Coordinators.{ended_in, in_report, report_shown, runs}
 use Rattle.syn_session.specs.Sendings.{messages_of}

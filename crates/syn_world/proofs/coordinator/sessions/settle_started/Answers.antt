@@ -1,6 +1,6 @@
 use Rattle.std.proofs.Common.{refl}
-use Rattle.syn_headline.specs.Coordinator.{no_call}
-use Rattle.syn_headline.specs.MachineSteps.{refused_by}
+use Rattle.syn_machine.specs.Coordinator.{no_call}
+use Rattle.syn_machine.specs.MachineSteps.{refused_by}
 use Rattle.syn_coordinator.specs.Coordinators.{written}
 use Rattle.syn_session.specs.Sendings.{messages_of}
 use Rattle.syn_world.proofs.CallLemmas.{gathered_tells}

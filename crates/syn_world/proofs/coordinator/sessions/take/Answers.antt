@@ -1,6 +1,6 @@
 use Rattle.std.proofs.Common.{◌∙◌, [], ap, refl}
 use Rattle.std.specs.Prelude.{◌&&◌, if◌then◌else◌, not}
-use Rattle.syn_headline.specs.Coordinator.{no_call}
+use Rattle.syn_machine.specs.Coordinator.{no_call}
 use Rattle.syn_world.specs.CoordinatorSteps.{refuses_nothing}
 use Rattle.syn_message.specs.Replies.{reply_of}
 use Rattle.syn_path.specs.Sides.{which_of}

@@ -1,7 +1,7 @@
-use Rattle.syn_headline.specs.World.{Checkpoint, Coordinator}
-use Rattle.syn_headline.specs.Coordinator.{coordinator_kind}
-use Rattle.syn_headline.specs.MachineSteps.{Does}
-use Rattle.syn_headline.specs.MachineSteps as one
+use Rattle.syn_runs.specs.World.{Checkpoint, Coordinator}
+use Rattle.syn_machine.specs.Coordinator.{coordinator_kind}
+use Rattle.syn_machine.specs.MachineSteps.{Does}
+use Rattle.syn_machine.specs.MachineSteps as one
 use Rattle.syn_world.proofs.SessionLemmas.{goes_coordinator, lift_coordinator}
 use Rattle.syn_world.proofs.running.Running.checkpoint_coordinator.Goals as goal
 

@@ -1,8 +1,8 @@
 use Rattle.std.proofs.Common.{◌∙◌, ap, refl, subst, sym, None, Some}
 use Rattle.std.specs.Prelude.{slice_get}
 use Rattle.std.proofs.lemmas.Option.{slice_get_past, slice_get_read}
-use Rattle.syn_headline.specs.Network.{Asks, Answers}
-use Rattle.syn_headline.specs.World.{Delivers, no_message}
+use Rattle.syn_machine.specs.Network.{Asks, Answers}
+use Rattle.syn_runs.specs.World.{Delivers, no_message}
 use Rattle.syn_message.specs.Requests.{request_of}
 use Rattle.syn_message.specs.declared.request.RequestMessage.{RequestMessage}
 use Rattle.syn_path.specs.Sides.{which_of}

@@ -1,8 +1,8 @@
 use Rattle.std.proofs.Common.{◌∙◌, sym}
 use Rattle.std.proofs.lemmas.Bool.{false≢true}
-use Rattle.syn_headline.specs.Coordinator.{CoordinatorTakes}
-use Rattle.syn_headline.specs.Network.{Answers}
-use Rattle.syn_headline.specs.World.{Deliver}
+use Rattle.syn_machine.specs.Coordinator.{CoordinatorTakes}
+use Rattle.syn_machine.specs.Network.{Answers}
+use Rattle.syn_runs.specs.World.{Deliver}
 use Rattle.syn_world.specs.CoordinatorSteps.{Unrefused}
 use Rattle.syn_message.specs.Replies.{reply_of}
 use Rattle.syn_path.specs.Sides.{which_of}

@@ -1,7 +1,7 @@
 use Rattle.std.proofs.Common.{◌≡◌, [], Some, refl, subst}
 use Rattle.std.specs.Prelude.{option_map, slice_get}
-use Rattle.syn_headline.specs.Network.{Asks, Left, Right}
-use Rattle.syn_headline.specs.World.{says}
+use Rattle.syn_machine.specs.Network.{Asks, Left, Right}
+use Rattle.syn_runs.specs.World.{says}
 use Rattle.syn_world.specs.Outcomes.{refused_in}
 use Rattle.syn_world.specs.Sides.{side_disk}
 use Rattle.syn_message.specs.Replies.{reply_of}

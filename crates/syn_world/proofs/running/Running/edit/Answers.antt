@@ -1,7 +1,7 @@
 use Rattle.std.proofs.Common.{[], refl, subst, sym}
-use Rattle.syn_headline.specs.Network.{Left, Right}
-use Rattle.syn_headline.specs.SideMachine.{UserEdits}
-use Rattle.syn_headline.specs.World.{Edits}
+use Rattle.syn_machine.specs.Network.{Left, Right}
+use Rattle.syn_machine.specs.SideMachine.{UserEdits}
+use Rattle.syn_runs.specs.World.{Edits}
 use Rattle.syn_world.specs.Outcomes.{refused_in}
 use Rattle.syn_world.specs.Sides.{side_disk}
 use Rattle.syn_model.specs.Event.{Edited}

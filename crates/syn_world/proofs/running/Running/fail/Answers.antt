@@ -1,5 +1,5 @@
 use Rattle.std.proofs.Common.{subst, sym}
-use Rattle.syn_headline.specs.World.{Fail}
+use Rattle.syn_runs.specs.World.{Fail}
 use Rattle.syn_world.specs.Steps.{machine_of}
 use Rattle.syn_world.specs.Failures.{failures_in}
 use Rattle.syn_world.specs.Worlds.{StaysSo}

@@ -1,6 +1,6 @@
 use Rattle.std.proofs.Common.{refl}
-use Rattle.syn_headline.specs.Coordinator.{coordinator_kind}
-use Rattle.syn_headline.specs.MachineSteps.{Does, Fail}
+use Rattle.syn_machine.specs.Coordinator.{coordinator_kind}
+use Rattle.syn_machine.specs.MachineSteps.{Does, Fail}
 use Rattle.syn_world.specs.Coordinators.{archive_disk}
 use Rattle.syn_world.specs.Failures.{disks_in}
 use Rattle.syn_world.proofs.FailureLemmas.{archive_counts}

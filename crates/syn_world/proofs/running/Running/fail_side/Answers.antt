@@ -1,9 +1,9 @@
 use Rattle.std.proofs.Common.{refl, subst, sym}
-use Rattle.syn_headline.specs.MachineSteps.{Does}
-use Rattle.syn_headline.specs.MachineSteps as one
-use Rattle.syn_headline.specs.Network.{Left, Right}
-use Rattle.syn_headline.specs.SideMachine.{side_kind}
-use Rattle.syn_headline.specs.World.{At, Fail, Steps, set_side}
+use Rattle.syn_machine.specs.MachineSteps.{Does}
+use Rattle.syn_machine.specs.MachineSteps as one
+use Rattle.syn_machine.specs.Network.{Left, Right}
+use Rattle.syn_machine.specs.SideMachine.{side_kind}
+use Rattle.syn_runs.specs.World.{At, Fail, Steps, set_side}
 use Rattle.syn_world.specs.Sides.{side_disk}
 use Rattle.syn_path.specs.Sides.{which_of}
 use Rattle.syn_world.specs.Failures.{disks_in}

@@ -1,5 +1,5 @@
-use Rattle.syn_headline.specs.Network.{Left, Right}
-use Rattle.syn_headline.specs.World.{At, Coordinator}
+use Rattle.syn_machine.specs.Network.{Left, Right}
+use Rattle.syn_runs.specs.World.{At, Coordinator}
 use Rattle.syn_world.specs.Failures.{CountAlike, disks_in, failures_on}
 use Rattle.syn_world.proofs.HeadlineLemmas.{left_on_disks, world_left}
 use Rattle.syn_world.proofs.running.Running.into_disks.Goals as goal

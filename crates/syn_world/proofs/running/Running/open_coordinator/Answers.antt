@@ -1,7 +1,7 @@
 use Rattle.std.proofs.Common.{subst, sym}
-use Rattle.syn_headline.specs.World.{Coordinator, Open}
-use Rattle.syn_headline.specs.Coordinator.{coordinator_kind}
-use Rattle.syn_headline.specs.MachineSteps.{OpensDown}
+use Rattle.syn_runs.specs.World.{Coordinator, Open}
+use Rattle.syn_machine.specs.Coordinator.{coordinator_kind}
+use Rattle.syn_machine.specs.MachineSteps.{OpensDown}
 use Rattle.syn_world.specs.CoordinatorOpenings.{OpeningIsStep}
 use Rattle.syn_world.specs.Coordinators.{IsCoordinator, archive_disk}
 use Rattle.syn_world.proofs.OpeningLemmas.{goes_found}

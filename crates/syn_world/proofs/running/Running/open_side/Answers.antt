@@ -1,8 +1,8 @@
 use Rattle.std.proofs.Common.{[], refl, subst, sym}
-use Rattle.syn_headline.specs.MachineSteps.{OpensDown}
-use Rattle.syn_headline.specs.Network.{Left, Right}
-use Rattle.syn_headline.specs.SideMachine.{side_kind}
-use Rattle.syn_headline.specs.World.{At, Open}
+use Rattle.syn_machine.specs.MachineSteps.{OpensDown}
+use Rattle.syn_machine.specs.Network.{Left, Right}
+use Rattle.syn_machine.specs.SideMachine.{side_kind}
+use Rattle.syn_runs.specs.World.{At, Open}
 use Rattle.syn_world.specs.Outcomes.{refused_in}
 use Rattle.syn_world.specs.Sides.{CallIsStep, IsHost, side_disk}
 use Rattle.syn_path.specs.Sides.{which_of}

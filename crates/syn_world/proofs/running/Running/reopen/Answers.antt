@@ -1,5 +1,5 @@
 use Rattle.std.proofs.Common.{subst, sym}
-use Rattle.syn_headline.specs.World.{Reopen}
+use Rattle.syn_runs.specs.World.{Reopen}
 use Rattle.syn_world.specs.Steps.{machine_of}
 use Rattle.syn_world.specs.Failures.{failures_in}
 use Rattle.syn_world.specs.Worlds.{GoesSo}

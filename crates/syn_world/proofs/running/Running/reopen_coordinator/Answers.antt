@@ -1,7 +1,7 @@
-use Rattle.syn_headline.specs.Coordinator.{coordinator_kind}
-use Rattle.syn_headline.specs.MachineSteps.{Does}
-use Rattle.syn_headline.specs.MachineSteps as one
-use Rattle.syn_headline.specs.World.{Coordinator, Reopen}
+use Rattle.syn_machine.specs.Coordinator.{coordinator_kind}
+use Rattle.syn_machine.specs.MachineSteps.{Does}
+use Rattle.syn_machine.specs.MachineSteps as one
+use Rattle.syn_runs.specs.World.{Coordinator, Reopen}
 use Rattle.syn_world.proofs.OpeningLemmas.{goes_found}
 use Rattle.syn_world.proofs.SessionLemmas.{lift_coordinator}
 use Rattle.syn_world.proofs.running.Running.reopen_coordinator.Goals as goal

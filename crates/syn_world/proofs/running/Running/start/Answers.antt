@@ -1,5 +1,5 @@
-use Rattle.syn_headline.specs.World.{Start}
-use Rattle.syn_headline.specs.Coordinator.{Starts}
+use Rattle.syn_runs.specs.World.{Start}
+use Rattle.syn_machine.specs.Coordinator.{Starts}
 use Rattle.syn_world.proofs.SessionLemmas.{goes_coordinator, lift_coordinator}
 use Rattle.syn_world.proofs.running.Running.start.Goals as goal
 use Rattle.std.proofs.Common.{option_map}

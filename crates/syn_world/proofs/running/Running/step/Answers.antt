@@ -1,5 +1,5 @@
 use Rattle.std.proofs.Common.{Ok, refl, subst, sym}
-use Rattle.syn_headline.specs.World.{Edits}
+use Rattle.syn_runs.specs.World.{Edits}
 use Rattle.syn_path.specs.Sides.{which_of}
 use Rattle.syn_world.specs.Failures.{failures_in}
 use Rattle.syn_world.specs.Runs.{Attempts, no_memory, steps}

@@ -1,5 +1,5 @@
-use Rattle.syn_headline.specs.Coordinator.{CoordinatorTicks}
-use Rattle.syn_headline.specs.World.{Tick}
+use Rattle.syn_machine.specs.Coordinator.{CoordinatorTicks}
+use Rattle.syn_runs.specs.World.{Tick}
 use Rattle.syn_world.specs.CoordinatorSteps.{Unrefused}
 use Rattle.syn_world.proofs.SessionLemmas.{goes_coordinator, lift_tick}
 use Rattle.syn_world.proofs.running.Running.tick.Goals as goal

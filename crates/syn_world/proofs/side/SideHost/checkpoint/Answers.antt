@@ -1,5 +1,5 @@
-use Rattle.syn_headline.specs.MachineSteps.{Checkpoint, Does, is_down}
-use Rattle.syn_headline.specs.SideMachine.{side_kind}
+use Rattle.syn_machine.specs.MachineSteps.{Checkpoint, Does, is_down}
+use Rattle.syn_machine.specs.SideMachine.{side_kind}
 use Rattle.syn_world.proofs.HostLemmas.{call_down, down}
 use Rattle.syn_world.proofs.side.SideHost.checkpoint.Goals as goal
 

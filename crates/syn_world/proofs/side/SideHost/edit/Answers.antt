@@ -1,5 +1,5 @@
-use Rattle.syn_headline.specs.MachineSteps.{is_down}
-use Rattle.syn_headline.specs.SideMachine.{UserEdits}
+use Rattle.syn_machine.specs.MachineSteps.{is_down}
+use Rattle.syn_machine.specs.SideMachine.{UserEdits}
 use Rattle.syn_replica.specs.Edits.{event_by}
 use Rattle.syn_world.proofs.HostLemmas.{call_down, down}
 use Rattle.syn_world.proofs.side.SideHost.edit.Goals as goal

@@ -1,6 +1,6 @@
 use Rattle.std.proofs.Common.{[], ap, arith, refl, subst}
-use Rattle.syn_headline.specs.MachineSteps.{Does, Fail, arming, is_done, is_down, with_device}
-use Rattle.syn_headline.specs.SideMachine.{side_kind}
+use Rattle.syn_machine.specs.MachineSteps.{Does, Fail, arming, is_done, is_down, with_device}
+use Rattle.syn_machine.specs.SideMachine.{side_kind}
 use Rattle.syn_world.specs.Sides.{IsHost, side_disk}
 use Rattle.syn_world.proofs.HostLemmas.{down, stays_down}
 use Rattle.syn_world.proofs.SideLemmas.{not_down}

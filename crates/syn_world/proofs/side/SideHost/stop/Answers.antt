@@ -1,7 +1,7 @@
 use Rattle.std.proofs.Common.{◌≡◌, ◌≢◌, [], ap, arith, refl, subst, sym}
-use Rattle.syn_headline.specs.Machine.{Down, unarmed}
-use Rattle.syn_headline.specs.MachineSteps.{Does, Stop, arming, is_done, with_device}
-use Rattle.syn_headline.specs.SideMachine.{side_kind}
+use Rattle.syn_machine.specs.Machine.{Down, unarmed}
+use Rattle.syn_machine.specs.MachineSteps.{Does, Stop, arming, is_done, with_device}
+use Rattle.syn_machine.specs.SideMachine.{side_kind}
 use Rattle.syn_world.specs.Sides.{IsHost, side_disk}
 use Rattle.syn_world.proofs.HostLemmas.{down, stays_down}
 use Rattle.syn_world.proofs.SideLemmas.{not_down}

@@ -1,5 +1,5 @@
 use Rattle.std.proofs.Common.{◌≡◌, ◌⊎◌, ◌∙◌, ◌-◌, Some, ap, arith, inl, inr, refl, sym, [], ◌∷◌}
-use Rattle.syn_headline.specs.SideMachine.{causes_of}
+use Rattle.syn_machine.specs.SideMachine.{causes_of}
 use Rattle.syn_model.specs.Refusal.{first_cause}
 use Rattle.syn_model.specs.Refusal as why
 use Rattle.syn_replica.specs.Edits.{event_by}

@@ -1,7 +1,7 @@
 use Rattle.std.proofs.Common.{◌≡◌, ◌∙◌, ◌-◌, ◌∷◌, [], ap, arith, sym, true, false}
 use Rattle.std.proofs.lemmas.Bool.{false≢true}
 use Rattle.std.specs.Prelude.{◌^◌}
-use Rattle.syn_headline.specs.MachineSteps.{full_generation}
+use Rattle.syn_machine.specs.MachineSteps.{full_generation}
 use Rattle.syn_model.specs.Refusal.{first_cause}
 use Rattle.syn_model.specs.Refusal as why
 use Rattle.syn_replica.specs.Replica.{generation_shown}

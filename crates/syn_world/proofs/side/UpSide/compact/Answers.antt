@@ -1,7 +1,7 @@
 use Rattle.std.proofs.Common.{◌≡◌, ◌∙◌, ◌+◌, ◌<◌, ◌++◌, ◌∷◌, [], Some, ap, arith, inl, inr, refl}
 use Rattle.std.proofs.Common.{subst, sym, true}
 use Rattle.std.specs.Prelude.{◌^◌}
-use Rattle.syn_headline.specs.MachineSteps.{causes_at, full_generation}
+use Rattle.syn_machine.specs.MachineSteps.{causes_at, full_generation}
 use Rattle.syn_model.specs.Refusal.{first_cause}
 use Rattle.syn_model.specs.Refusal as why
 use Rattle.syn_replica.specs.ErrorRefusals.{refusal_of}

@@ -1,5 +1,5 @@
 use Rattle.std.proofs.Common.{◌≡◌, ◌∷◌, [], true}
-use Rattle.syn_headline.specs.SideMachine.{causes_of}
+use Rattle.syn_machine.specs.SideMachine.{causes_of}
 use Rattle.syn_model.specs.Refusal as why
 use Rattle.syn_replica.specs.Edits.{event_by}
 use Rattle.syn_world.proofs.CauseLemmas.{causes_halted}

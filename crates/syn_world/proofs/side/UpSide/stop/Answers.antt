@@ -1,7 +1,7 @@
 use Rattle.std.proofs.Common.{◌∙◌, refl}
-use Rattle.syn_headline.specs.Machine.{Down, unarmed}
-use Rattle.syn_headline.specs.MachineSteps.{with_device}
-use Rattle.syn_headline.specs.SideMachine.{side_kind}
+use Rattle.syn_machine.specs.Machine.{Down, unarmed}
+use Rattle.syn_machine.specs.MachineSteps.{with_device}
+use Rattle.syn_machine.specs.SideMachine.{side_kind}
 use Rattle.syn_journal.proofs.DiskLemmas.{may_be_still}
 use Rattle.syn_replica.specs.Keepings.{of_side}
 use Rattle.syn_world.proofs.SideLemmas.{position_is}

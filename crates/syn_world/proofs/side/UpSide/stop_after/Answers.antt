@@ -2,9 +2,9 @@ use Rattle.std.proofs.Common.{◌≡◌, ◌≢◌, ◌∙◌, ℕ, false, ap, a
 use Rattle.std.proofs.lemmas.Bool.Decides.{nat_tests}
 use Rattle.std.specs.Prelude.{◌==◌, if◌then◌else◌}
 use Rattle.syn_disk.specs.Arms.{is_stopped}
-use Rattle.syn_headline.specs.Machine.{Arms}
-use Rattle.syn_headline.specs.MachineSteps.{with_device}
-use Rattle.syn_headline.specs.SideMachine.{side_kind}
+use Rattle.syn_machine.specs.Machine.{Arms}
+use Rattle.syn_machine.specs.MachineSteps.{with_device}
+use Rattle.syn_machine.specs.SideMachine.{side_kind}
 use Rattle.syn_world.specs.Sides.{RunsAs}
 use Rattle.syn_journal.specs.Calls.{armed_at}
 use Rattle.syn_replica.specs.Replica.{disk_of}

@@ -1,5 +1,5 @@
 use Rattle.std.proofs.Common.{map, take}
-use Rattle.syn_headline.specs.World.{World as ModelWorld}
+use Rattle.syn_runs.specs.World.{World as ModelWorld}
 use Rattle.syn_world.specs.Failures.{failures_in}
 use Rattle.syn_world.specs.Runs.{HasRun}
 use Rattle.syn_world.specs.Steps.{step_of}

@@ -1,0 +1,4 @@
+pub mod NetworkLemmas
+pub mod Heard
+pub mod Rising
+pub mod WaitingLemmas

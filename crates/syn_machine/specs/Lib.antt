@@ -1,0 +1,9 @@
+pub mod Machine
+pub mod MachineSteps
+pub mod Side
+pub mod SideMachine
+pub mod Network
+pub mod Planning
+pub mod Report
+pub mod Session
+pub mod Coordinator

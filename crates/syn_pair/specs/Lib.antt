@@ -1,0 +1,6 @@
+pub mod Belongs
+pub mod Following
+pub mod Known
+pub mod Marks
+pub mod Refusals
+pub mod Sides
