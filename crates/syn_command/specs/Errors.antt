@@ -16,6 +16,7 @@ use Rattle.syn_command.specs.declared.error.CommandError.TheVariants.{Path, Open
 use Rattle.syn_command.specs.declared.error.CommandError.TheVariants.{Refused, Device}
 use Rattle.syn_command.specs.declared.error.CommandError.TheVariants.{Memory, User, Folder}
 use Rattle.syn_command.specs.declared.error.CommandError.TheVariants.{Apart, Beside, Marks}
+use Rattle.syn_command.specs.declared.error.CommandError.TheVariants.{OtherFolder}
 use Rattle.syn_command.specs.declared.error.CommandError.TheVariants.{OlderServer}
 use Rattle.syn_cli.specs.declared.command.EditKind.{EditKind}
 use Rattle.syn_cli.specs.declared.command.EditKind.TheVariants.{Put}
@@ -31,6 +32,7 @@ refusal_of (User error) = of_user error
 refusal_of (Folder error) = of_folder error
 refusal_of (Apart mismatch) = of_pair mismatch
 refusal_of (Marks mismatch) = of_marks mismatch
+refusal_of (OtherFolder mismatch) = why.WrongPair
 refusal_of (OlderServer side) = why.WrongPair
 refusal_of (Beside error) = why.Device
 refusal_of (Device error) = why.Device

@@ -9,7 +9,7 @@ use std::{fmt, io};
 use syn_archive::ArchiveError;
 use syn_disk::OpenError;
 use syn_folder::FolderError;
-use syn_pair::{MarksMismatch, Mismatch};
+use syn_pair::{FolderMismatch, MarksMismatch, Mismatch};
 use syn_path::{PathError, Side};
 use syn_print::PrintError;
 use syn_refusal::Refusal;
@@ -49,6 +49,8 @@ pub enum CommandError {
     OlderServer(Side),
     /// The marks of a folder are not of the replica.
     Marks(MarksMismatch),
+    /// The marks are not of the folder.
+    OtherFolder(FolderMismatch),
     /// A file beside an image cannot be read or written, or is somebody else's.
     Beside(BesideError),
     /// Standard input cannot be read, standard output cannot be written, or the file cannot be
@@ -74,6 +76,7 @@ impl CommandError {
             CommandError::Apart(mismatch) => mismatch.refusal(),
             CommandError::OlderServer(_) => Refusal::WrongPair,
             CommandError::Marks(mismatch) => mismatch.refusal(),
+            CommandError::OtherFolder(mismatch) => mismatch.refusal(),
             CommandError::Beside(_) => Refusal::Device,
             CommandError::Device(_) => Refusal::Device,
             CommandError::Memory => Refusal::Memory,

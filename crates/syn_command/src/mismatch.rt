@@ -1,7 +1,7 @@
 //! Tells why an archive and two sides do not belong together, or marks and a replica.
 
 use std::io::Write;
-use syn_pair::{Cause, MarksMismatch, Mismatch};
+use syn_pair::{Cause, FolderMismatch, MarksMismatch, Mismatch};
 use syn_path::Side;
 
 /// The way on where an archive or a replica was lost or put back.
@@ -51,6 +51,15 @@ pub(crate) fn tell_marks_mismatch<E: Write>(mismatch: MarksMismatch, errors: &mu
         }
         MarksMismatch::Of(cause) => tell_cause("replica", "the marks are of", cause, errors),
     }
+    let _ = writeln!(errors, "{ANEW}");
+}
+
+/// Tells why the marks are not of the folder, and how to go on.
+pub(crate) fn tell_other_folder<E: Write>(mismatch: FolderMismatch, errors: &mut E) {
+    let _ = writeln!(
+        errors,
+        "syn: this is not the folder of its marks: {mismatch}"
+    );
     let _ = writeln!(errors, "{ANEW}");
 }
 

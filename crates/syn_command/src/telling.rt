@@ -4,7 +4,7 @@ ghost use Rattle.syn_command.specs.Status.{status_of};
 
 use crate::error::{BesideError, CommandError};
 use crate::failure::Failure;
-use crate::mismatch::{tell_marks_mismatch, tell_mismatch, tell_older_server};
+use crate::mismatch::{tell_marks_mismatch, tell_mismatch, tell_older_server, tell_other_folder};
 use crate::outcome::Outcome;
 use crate::status::Status;
 use std::io::{self, Write};
@@ -65,6 +65,7 @@ fn refuse<E: Write>(error: &CommandError, errors: &mut E) {
         }
         CommandError::Apart(mismatch) => tell_mismatch(*mismatch, errors),
         CommandError::Marks(mismatch) => tell_marks_mismatch(*mismatch, errors),
+        CommandError::OtherFolder(mismatch) => tell_other_folder(*mismatch, errors),
         CommandError::OlderServer(side) => tell_older_server(*side, errors),
         CommandError::Beside(BesideError::System { path, error }) => {
             let _ = writeln!(errors, "syn: {path}: {error}");

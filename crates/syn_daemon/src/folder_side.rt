@@ -2,6 +2,7 @@
 ghost use Rattle.syn_shared.specs.Shared.{IsFor};
 
 use crate::ending::Ending;
+use crate::stamping::{KeepsMarks, StampError, Stamping, raise};
 use crate::told::ToldLines;
 use log::{Log, info, warn};
 use std::alloc::{AllocError, Global};
@@ -12,7 +13,7 @@ use syn_archive::Archive;
 use syn_disk::Disk;
 use syn_folder::{EditedFolder, FolderError, Glimpse, Kept, SystemFolder, take_glimpse};
 use syn_lock::Pass;
-use syn_pair::{LAST_PLACE, SideStatus};
+use syn_pair::{FolderMismatch, FolderStamp, LAST_PLACE, SideStatus};
 use syn_path::Side;
 use syn_recon::Item;
 use syn_reconcile::{ReconcileError, Report, Settlement, WhenEmpty, reconcile_shared};
@@ -24,15 +25,6 @@ use syn_shared::{SharedReplica, UpkeepStep, keep_up};
 /// what was written then.
 const LOOKS: u8 = 2;
 
-/// Keeps what the replica says of itself beside the marks of a folder, so that they are used beside
-/// no other replica and no older copy of it.
-pub trait KeepsReplica {
-    /// Keeps it, whole and durably.
-    ///
-    /// Refused 9 where it cannot be kept, and 11 where memory is refused.
-    fn keep_replica(&self, known: SideStatus) -> Result<(), Refusal>;
-}
-
 /// A folder that a server keeps the same as its replica.
 #[derive(Drop)]
 pub struct FolderSide<'a, F, A: Disk, K> {
@@ -41,7 +33,7 @@ pub struct FolderSide<'a, F, A: Disk, K> {
     pub root: &'a str,
     /// What folder and replica last agreed on.
     pub archive: Archive<A>,
-    /// Where it is kept which replica that was.
+    /// Where it is kept which folder and which replica that was.
     pub keeper: K,
     /// Whose edits the folder's changes are.
     pub user: u32,
@@ -73,7 +65,7 @@ where
     D: Disk,
     F: Files,
     A: Disk + Drop,
-    K: KeepsReplica + Drop,
+    K: KeepsMarks + Drop,
 {
     fn run(self) {
         let FolderThread {
@@ -99,8 +91,10 @@ struct SinceLastLook {
     position: u64,
     /// How often the folder was read since it looks so and the replica has this position.
     looks: u8,
-    /// The position of the replica of which was kept where it is, beside the marks.
-    kept: Option<u64>,
+    /// The stamp of the folder and its marks; none where both get a new number.
+    stamp: Option<FolderStamp>,
+    /// It was raised since the server began.
+    was_raised: bool,
     told: ToldLines,
 }
 
@@ -109,12 +103,15 @@ struct SinceLastLook {
 enum LookError {
     Folder(FolderError),
     Reconcile(ReconcileError),
-    /// It cannot be kept where the replica is.
-    Unkept(Refusal),
+    /// The marks are of another folder, or of an older or a newer copy of it.
+    Other(FolderMismatch),
+    /// The replica cannot say where it is.
+    Replica(Refusal),
 }
 
 /// Makes folder and replica the same at once, whenever one of them has changed, and once more when
-/// the server has ended.
+/// the server has ended. Then the stamp of folder and marks is raised, if it was before, so that a
+/// copy that was made meanwhile is an older one.
 fn keep_folder<H, D, F, A, K>(
     rt: &H,
     alloc: Global,
@@ -128,14 +125,15 @@ where
     D: Disk,
     F: Files,
     A: Disk + Drop,
-    K: KeepsReplica + Drop,
+    K: KeepsMarks + Drop,
     requires { IsFor shared.now pass }
 {
     let mut since = SinceLastLook {
         glimpse: None,
         position: 0,
         looks: 0,
-        kept: None,
+        stamp: side.keeper.folder(),
+        was_raised: false,
         told: ToldLines::new(alloc),
     };
     if side.takes_replica {
@@ -145,6 +143,7 @@ where
         let is_over = ending.is_over(rt);
         look(rt, alloc, shared, &mut pass, &mut side, &mut since);
         if is_over {
+            raise_at_end(rt, alloc, shared, &mut pass, &side, &since);
             return;
         }
         ending.wait(rt, side.seconds.max(1));
@@ -165,7 +164,7 @@ where
     D: Disk,
     F: Files,
     A: Disk,
-    K: KeepsReplica,
+    K: KeepsMarks,
     requires { IsFor shared.now pass.old }
     ensures { IsFor shared.now pass.new }
 {
@@ -175,7 +174,7 @@ where
         return;
     }
     make_room(rt, alloc, shared, pass);
-    let answer = make_same_known(rt, alloc, shared, pass, side, since);
+    let answer = make_same(rt, alloc, shared, pass, side, since);
     let _ = tell(rt, alloc, side.root, &answer, &mut since.told);
     if is_passing(&answer) {
         since.looks = 0;
@@ -221,9 +220,9 @@ fn make_room<H: Wait + Log, D: Disk>(
     }
 }
 
-/// Makes folder and replica the same. It is kept where the replica is, before anything is recorded
-/// and once all is. Where the second cannot be kept, the next look is refused so.
-fn make_same_known<H, D, F, A, K>(
+/// Makes folder and replica the same, where the folder is the one that the marks are of. Before
+/// anything is recorded the stamp of both is raised, and once all is it is kept where the replica is.
+fn make_same<H, D, F, A, K>(
     rt: &H,
     alloc: Global,
     shared: &SharedReplica<D>,
@@ -236,82 +235,126 @@ where
     D: Disk,
     F: Files,
     A: Disk,
-    K: KeepsReplica,
+    K: KeepsMarks,
     requires { IsFor shared.now pass.old }
     ensures { IsFor shared.now pass.new }
 {
-    let before = keep_replica(rt, alloc, shared, pass, &side.keeper, &mut since.kept);
-    if let Err(refusal) = before {
-        return Err(LookError::Unkept(refusal));
+    if let Err(error) = reopen(alloc, &mut side.archive) {
+        return Err(LookError::Reconcile(error));
     }
-    let report = make_same(rt, alloc, shared, pass, side, &mut since.told);
-    let _ = keep_replica(rt, alloc, shared, pass, &side.keeper, &mut since.kept);
-    report
-}
-
-/// Keeps where the replica is in its history, where it has another position than the one of which
-/// that was kept.
-fn keep_replica<H: Wait, D: Disk, K: KeepsReplica>(
-    rt: &H,
-    alloc: Global,
-    shared: &SharedReplica<D>,
-    pass: &mut Pass<Replica<D>>,
-    keeper: &K,
-    kept: &mut Option<u64>,
-) -> Result<(), Refusal>
-    requires { IsFor shared.now pass.old }
-    ensures { IsFor shared.now pass.new }
-{
-    let status = match shared.status(rt, alloc, pass, LAST_PLACE) {
-        Ok(status) => status,
-        Err(error) => return Err(error.refusal()),
-    };
-    let position = status.position;
-    if *kept == Some(position) {
-        return Ok(());
-    }
-    let identity = shared.identity();
-    keeper.keep_replica(SideStatus { identity, status })?;
-    *kept = Some(position);
-    Ok(())
-}
-
-/// Makes folder and replica the same.
-fn make_same<H, D, F, A, K>(
-    rt: &H,
-    alloc: Global,
-    shared: &SharedReplica<D>,
-    pass: &mut Pass<Replica<D>>,
-    side: &mut FolderSide<'_, F, A, K>,
-    told: &mut ToldLines,
-) -> Result<Report, LookError>
-where
-    H: Wait + Log,
-    D: Disk,
-    F: Files,
-    A: Disk,
-    requires { IsFor shared.now pass.old }
-    ensures { IsFor shared.now pass.new }
-{
-    if side.archive.is_halted() {
-        if let Err(error) = side.archive.reopen(alloc) {
-            return Err(LookError::Reconcile(ReconcileError::Archive(error)));
-        }
-    }
-    let mut folder = match SystemFolder::open_to_edit(alloc, side.files, side.root) {
+    let mut folder = match open_folder(rt, alloc, side.files, side.root, &mut since.told) {
         Ok(folder) => folder,
         Err(error) => return Err(LookError::Folder(error)),
     };
+    let found = replica_status(rt, alloc, shared, pass)?;
+    let (marks, keeper) = (side.archive.tree(), &side.keeper);
+    let mut stamping = match Stamping::open(alloc, &folder, marks, keeper, since.stamp, found) {
+        Ok(stamping) => stamping,
+        Err(StampError::Other(mismatch)) => return Err(LookError::Other(mismatch)),
+        Err(StampError::Folder(error)) => return Err(LookError::Folder(error)),
+    };
+    let (archive, user) = (&mut side.archive, side.user);
+    let refuse = WhenEmpty::Refuse;
+    let reconciled = reconcile_shared(
+        rt,
+        alloc,
+        &mut folder,
+        shared,
+        pass,
+        archive,
+        user,
+        refuse,
+        &mut stamping,
+    );
+    tell_kept(rt, folder.kept());
+    if stamping.is_raised() || (side.takes_replica && since.stamp.is_none()) {
+        since.was_raised = true;
+        let found = replica_status(rt, alloc, shared, pass)?;
+        // Where this is refused, the next look that records something keeps it.
+        let _ = stamping.keep(found);
+    }
+    since.stamp = stamping.stamp();
+    reconciled.map_err(LookError::Reconcile)
+}
+
+/// Opens the archive again, where a record of it has failed.
+fn reopen<A: Disk>(alloc: Global, archive: &mut Archive<A>) -> Result<(), ReconcileError> {
+    if !archive.is_halted() {
+        return Ok(());
+    }
+    match archive.reopen(alloc) {
+        Ok(()) => Ok(()),
+        Err(error) => Err(ReconcileError::Archive(error)),
+    }
+}
+
+/// Reads the folder, and tells what can stand in no replica.
+fn open_folder<'a, H: Log, F: Files>(
+    rt: &H,
+    alloc: Global,
+    files: &'a F,
+    root: &'a str,
+    told: &mut ToldLines,
+) -> Result<SystemFolder<'a, F>, FolderError> {
+    let folder = SystemFolder::open_to_edit(alloc, files, root)?;
     for stranger in folder.strangers() {
         if let Ok(line) = format!(in alloc; "folder skipped {stranger}") {
             let _ = told.tell(rt, line);
         }
     }
-    let (archive, user) = (&mut side.archive, side.user);
-    let refuse = WhenEmpty::Refuse;
-    let reconciled = reconcile_shared(rt, alloc, &mut folder, shared, pass, archive, user, refuse);
-    tell_kept(rt, folder.kept());
-    reconciled.map_err(LookError::Reconcile)
+    Ok(folder)
+}
+
+/// What the replica says of itself by now.
+fn replica_status<H: Wait, D: Disk>(
+    rt: &H,
+    alloc: Global,
+    shared: &SharedReplica<D>,
+    pass: &mut Pass<Replica<D>>,
+) -> Result<SideStatus, LookError>
+    requires { IsFor shared.now pass.old }
+    ensures { IsFor shared.now pass.new }
+{
+    let identity = shared.identity();
+    match shared.status(rt, alloc, pass, LAST_PLACE) {
+        Ok(status) => Ok(SideStatus { identity, status }),
+        Err(error) => Err(LookError::Replica(error.refusal())),
+    }
+}
+
+/// Raises the stamp of folder and marks, where it was raised since the server began.
+fn raise_at_end<H, D, F, A, K>(
+    rt: &H,
+    alloc: Global,
+    shared: &SharedReplica<D>,
+    pass: &mut Pass<Replica<D>>,
+    side: &FolderSide<'_, F, A, K>,
+    since: &SinceLastLook,
+)
+where
+    H: Wait + Log,
+    D: Disk,
+    F: Files,
+    A: Disk,
+    K: KeepsMarks,
+    requires { IsFor shared.now pass.old }
+    ensures { IsFor shared.now pass.new }
+{
+    if !since.was_raised {
+        return;
+    }
+    let Ok(found) = replica_status(rt, alloc, shared, pass) else {
+        return;
+    };
+    // Where this is refused the stamps are in step, or the folder's is one above.
+    let _ = raise(
+        alloc,
+        side.files,
+        side.root,
+        &side.keeper,
+        since.stamp,
+        found,
+    );
 }
 
 /// Tells what was replaced or removed in the folder, and where it lies.
@@ -393,12 +436,17 @@ fn line_of(alloc: Global, root: &str, error: &LookError) -> Result<String, Alloc
             let number = error.number();
             format!(in alloc; "folder refused {number} {error}")
         }
-        LookError::Unkept(why) => {
+        LookError::Other(mismatch) => {
+            let why = mismatch.refusal();
             let number = why.number();
             format!(in alloc;
-                "folder refused {number} {why}: it cannot be kept beside its marks where the \
-                    replica is"
+                "folder refused {number} {why}: {root} is not the folder that its marks are of: \
+                    {mismatch}"
             )
+        }
+        LookError::Replica(why) => {
+            let number = why.number();
+            format!(in alloc; "folder refused {number} {why}")
         }
     }
 }
@@ -412,7 +460,8 @@ fn is_passing(answer: &Result<Report, LookError>) -> bool {
         }),
         Err(LookError::Folder(error)) => passes(error.refusal()),
         Err(LookError::Reconcile(error)) => passes(error.refusal()),
-        Err(LookError::Unkept(why)) => passes(*why),
+        Err(LookError::Other(_)) => false,
+        Err(LookError::Replica(why)) => passes(*why),
     }
 }
 

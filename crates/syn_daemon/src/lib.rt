@@ -15,6 +15,8 @@
 //!   had, and 11 where a server has no thread: then the coordinator is as it was (`refused`). Each
 //!   session takes a `Belonging` of the archive as it is (`BelongTo`), which `check_pair` of
 //!   `syn_pair` alone makes.
+//! - `Stamping` is the stamp by which a folder and its marks are known to belong together. It is
+//!   raised before anything is recorded.
 //! - `Sides` are the connections of a session with two servers. `ask` asks a side over the very
 //!   connection over which the session goes.
 //! - `reach` is the connection to a server, for a session and for a user.
@@ -32,14 +34,16 @@ mod server;
 mod sessions;
 mod shares;
 mod sides;
+mod stamping;
 mod streams;
 mod told;
 mod worker;
 
 pub use console::Plain;
-pub use folder_side::{FolderSide, KeepsReplica};
+pub use folder_side::FolderSide;
 pub use pauses::{NoPause, NoPauses, Pauses};
 pub use server::{Bounds, serve, serve_beside, serve_within};
 pub use sessions::{run, sync};
 pub use sides::Sides;
+pub use stamping::{KeepsMarks, StampError, Stamping};
 pub use streams::reach;

@@ -5,9 +5,10 @@ ghost use Rattle.syn_refusal.specs.Refusals.{cause_of};
 
 use crate::bell::Bell;
 use crate::ending::Ending;
-use crate::folder_side::{Companion, FolderSide, FolderThread, KeepsReplica};
+use crate::folder_side::{Companion, FolderSide, FolderThread};
 use crate::pauses::Pauses;
 use crate::shares::Shares;
+use crate::stamping::KeepsMarks;
 use log::{Log, info, warn};
 use std::alloc::Global;
 use std::fs::Files;
@@ -93,7 +94,8 @@ pub fn serve<H: Threads + Wait + Clock + Log + Sync, D: Disk + Send, G: Pauses>(
 /// serves up to 61 connections at once. It logs `folder carried into the replica: PATH` and
 /// `folder carried into the folder: PATH` for what is carried, and once, as long as it stays so,
 /// `folder conflict PATH`, `folder refused NUMBER PATH`, `folder skipped TEXT` for what no replica
-/// can have, and `folder refused NUMBER NAME` where nothing is carried.
+/// can have, and `folder refused NUMBER NAME` where nothing is carried, as where the folder is not
+/// the one that its marks are of.
 ///
 /// Refused as `serve` is, and 11 where the folder's thread cannot be made, too.
 pub fn serve_beside<H, D, G, F, A, K>(
@@ -113,7 +115,7 @@ where
     F::File: Send,
     F::Dir: Send,
     A: Disk + Drop + Send,
-    K: KeepsReplica + Drop + Send,
+    K: KeepsMarks + Drop + Send,
     ensures { IfErr result (λ why. (cause_of why ≡ NoSeat) ⊎ (cause_of why ≡ Memory)) }
 {
     let bounds = Bounds {

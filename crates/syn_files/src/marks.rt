@@ -1,19 +1,19 @@
-//! The replica that a folder's marks are of, which is known beside them.
+//! The replica and the folder that marks are of, which are known beside them.
 
 use crate::named::{Beside, NamedDisks};
 use crate::pairs::status_at;
 use std::alloc::Global;
 use syn_command::CommandError;
-use syn_daemon::KeepsReplica;
+use syn_daemon::KeepsMarks;
 use syn_disk::Disk;
 use syn_history::Identity;
-use syn_pair::{LAST_PLACE, MarkedReplica, SideStatus};
+use syn_pair::{FolderStamp, LAST_PLACE, MarkedReplica, SideStatus};
 use syn_refusal::Refusal;
 use syn_replica::Replica;
 
-/// What is known of the replica that the marks of a folder are of. Marks tell what was removed, so
-/// beside another replica, or an older copy of this one, they would have files removed that nobody
-/// has removed.
+/// What is known of the replica and of the folder that marks are of. Marks tell what was removed, so
+/// beside another replica or another folder, or an older copy of one of them, they would have files
+/// removed that nobody has removed.
 #[derive(Drop)]
 pub(crate) struct MarksKeeper<'a, N> {
     alloc: Global,
@@ -99,30 +99,22 @@ impl<'a, N: NamedDisks> MarksKeeper<'a, N> {
         marked.is_parted = true;
         keep(self.alloc, self.disks, self.marks, marked)
     }
-
-    /// Keeps where the replica, which has this identity, is in its history now.
-    ///
-    /// Refused 9 where it cannot be kept, and 11 where memory is refused.
-    pub fn keep_now<D: Disk>(
-        &self,
-        identity: Option<Identity>,
-        replica: &Replica<D>,
-    ) -> Result<(), CommandError> {
-        let known = status_at(self.alloc, identity, replica, LAST_PLACE)?;
-        let marked = MarkedReplica {
-            known,
-            is_parted: false,
-        };
-        keep(self.alloc, self.disks, self.marks, &marked)
-    }
 }
 
-impl<N: NamedDisks> KeepsReplica for MarksKeeper<'_, N> {
-    fn keep_replica(&self, known: SideStatus) -> Result<(), Refusal> {
+impl<N: NamedDisks> KeepsMarks for MarksKeeper<'_, N> {
+    fn folder(&self) -> Option<FolderStamp> {
+        match &self.known {
+            Some(marked) => Some(marked.folder),
+            None => None,
+        }
+    }
+
+    fn keep(&self, replica: SideStatus, folder: FolderStamp) -> Result<(), Refusal> {
         let (alloc, marks) = (self.alloc, self.marks);
         let marked = MarkedReplica {
-            known,
+            known: replica,
             is_parted: false,
+            folder,
         };
         let Ok(bytes) = marked.encode(alloc) else {
             return Err(Refusal::Memory);

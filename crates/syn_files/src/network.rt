@@ -2,7 +2,7 @@
 
 use crate::marks::MarksKeeper;
 use crate::named::{NamedDisks, replica_in};
-use crate::reconciling::{archive_name, archive_or_new, takes_replica};
+use crate::reconciling::{archive_name, archive_or_new, has_marks, takes_replica};
 use crate::sessions::shared;
 use log::{LevelFilter, Logged};
 use std::alloc::Global;
@@ -14,7 +14,7 @@ use std::thread::Threads;
 use std::time::Clock;
 use syn_cli::{EditCommand, ServeCommand};
 use syn_command::{CommandError, read_edit, show_path};
-use syn_daemon::{FolderSide, KeepsReplica, NoPauses, Plain, reach, serve, serve_beside};
+use syn_daemon::{FolderSide, KeepsMarks, NoPauses, Plain, reach, serve, serve_beside};
 use syn_disk::{Access, Disk};
 use syn_path::Path;
 use syn_print::show_served;
@@ -53,11 +53,10 @@ where
     };
     let name = archive_name(alloc, command.file, None)?;
     let archive = archive_or_new(alloc, disks, &name, replica.pair())?;
-    let mut keeper = MarksKeeper::open(alloc, disks, &name, false)?;
+    let mut keeper = MarksKeeper::open(alloc, disks, &name, !has_marks(&archive))?;
     let found = keeper.ask(identity, &replica)?;
     keeper.check_to_use(&found)?;
     let takes_replica = takes_replica(&keeper, &archive);
-    keeper.keep_now(identity, &replica)?;
     let side = FolderSide {
         files,
         root: folder.folder,
@@ -106,7 +105,7 @@ where
     F::File: Send,
     F::Dir: Send,
     A: Disk + Drop + Send,
-    K: KeepsReplica + Drop + Send,
+    K: KeepsMarks + Drop + Send,
 {
     let listener = TcpListener::bind(rt, command.address)?;
     let logged = Logged::new(*rt, LevelFilter::Info, Plain(*rt));

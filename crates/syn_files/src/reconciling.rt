@@ -2,6 +2,7 @@
 
 use crate::marks::MarksKeeper;
 use crate::named::{NamedDisks, archive_on, replica_in, replica_to_read};
+use crate::pairs::status_at;
 use crate::plans::print_compared;
 use std::alloc::{AllocError, Global};
 use std::fs::Files;
@@ -9,11 +10,13 @@ use std::io::{self, ErrorKind, Write};
 use syn_archive::Archive;
 use syn_cli::ReconcileCommand;
 use syn_command::{CommandError, Outcome, Teller, carried_line, marked_line};
+use syn_daemon::{KeepsMarks, StampError, Stamping};
 use syn_disk::{Access, Disk, MemDisk, OpenError};
 use syn_folder::{EditedFolder, Kept, SystemFolder};
+use syn_pair::{LAST_PLACE, SideStatus};
 use syn_path::Side;
 use syn_reconcile::{
-    ItemWatch, ReconcileError, Report, Settled, Settlement, WhenEmpty, plan, reconcile,
+    BeforeItems, ItemWatch, ReconcileError, Report, Settled, Settlement, WhenEmpty, plan, reconcile,
 };
 use syn_replica::Replica;
 
@@ -22,12 +25,12 @@ use syn_replica::Replica;
 /// sides; each item that is carried or marked is told, too, how many are settled, and where what
 /// was taken away from the folder lies.
 ///
-/// It is kept beside the archive where the replica is in its history, before anything is recorded
-/// and once all is. Anew, it begins without marks: nothing is removed, and what differs is a
-/// conflict.
+/// It is kept beside the archive which folder this is and where the replica is in its history,
+/// before anything is recorded and once all is. Anew, it begins without marks: nothing is removed,
+/// and what differs is a conflict.
 ///
-/// Refused as the replica and the archive are opened, 20 where the archive is not of this replica,
-/// or the replica is an older copy, 9 and 13 as the folder is read, and as `reconcile` is: what was
+/// Refused as the replica and the archive are opened, 20 where the archive is not of this replica
+/// and this folder, or one of them is an older copy, 9 and 13 as the folder is read, and as `reconcile` is: what was
 /// carried before stands then, and the same line goes on.
 pub fn reconcile_named<N: NamedDisks, F: Files, O: Write, E: Write>(
     alloc: Global,
@@ -44,20 +47,59 @@ pub fn reconcile_named<N: NamedDisks, F: Files, O: Write, E: Write>(
     }
     let mut archive = archive_or_new(alloc, disks, &name, replica.pair())?;
     let identity = disks.identity(alloc, command.file, Access::Write)?;
-    let mut keeper = MarksKeeper::open(alloc, disks, &name, command.is_anew)?;
+    let mut keeper = MarksKeeper::open(alloc, disks, &name, !has_marks(&archive))?;
     let found = keeper.ask(identity, &replica)?;
     keeper.check_to_use(&found)?;
     tell_taken(&keeper, &archive, command.file, teller.errors);
     let mut folder = SystemFolder::open_to_edit(alloc, files, command.folder)?;
     tell_strangers(&folder, teller.errors);
-    keeper.keep_now(identity, &replica)?;
+    let mut stamping = stamping_of(alloc, &folder, &archive, &keeper, found)?;
     let (opened, archive) = (&mut folder, &mut archive);
-    let reconciled = reconcile_opened(alloc, opened, replica, archive, command, teller);
+    let reconciled = reconcile_opened(
+        alloc,
+        opened,
+        replica,
+        archive,
+        command,
+        &mut stamping,
+        teller,
+    );
     tell_kept(folder.kept(), teller);
     let (replica, report) = reconciled?;
     print_report(&report, output)?;
-    keeper.keep_now(identity, &replica)?;
+    if stamping.is_raised() || takes_replica(&keeper, archive) {
+        stamping.raise(status_at(alloc, identity, &replica, LAST_PLACE)?)?;
+    }
     Ok(outcome_of(&report))
+}
+
+/// The stamp of the folder and of its marks.
+///
+/// Refused as `Stamping::open` is.
+fn stamping_of<'a, 'k, F: Files, A: Disk, K: KeepsMarks>(
+    alloc: Global,
+    folder: &SystemFolder<'a, F>,
+    archive: &Archive<A>,
+    keeper: &'k K,
+    found: SideStatus,
+) -> Result<Stamping<'a, 'k, F, K>, CommandError> {
+    match Stamping::open(
+        alloc,
+        folder,
+        archive.tree(),
+        keeper,
+        keeper.folder(),
+        found,
+    ) {
+        Ok(stamping) => Ok(stamping),
+        Err(StampError::Other(mismatch)) => Err(CommandError::OtherFolder(mismatch)),
+        Err(StampError::Folder(error)) => Err(CommandError::Folder(error)),
+    }
+}
+
+/// Whether anything but the root is marked.
+pub(crate) fn has_marks<A: Disk>(archive: &Archive<A>) -> bool {
+    archive.tree().node_count() > 1
 }
 
 /// Tells where marks are taken for those of the replica, since nothing is known of theirs.
@@ -81,17 +123,18 @@ pub(crate) fn takes_replica<N: NamedDisks, A: Disk>(
     keeper: &MarksKeeper<'_, N>,
     archive: &Archive<A>,
 ) -> bool {
-    !keeper.is_known() && archive.tree().as_slice().len() > 1
+    !keeper.is_known() && has_marks(archive)
 }
 
 /// Makes the folder and the replica the same, and answers the replica then, and what came of each
 /// item.
-fn reconcile_opened<F: EditedFolder, R: Disk + Drop, A: Disk, E: Write>(
+fn reconcile_opened<F: EditedFolder, R: Disk + Drop, A: Disk, B: BeforeItems, E: Write>(
     alloc: Global,
     folder: &mut F,
     replica: Replica<R>,
     archive: &mut Archive<A>,
     command: &ReconcileCommand<'_>,
+    before: &mut B,
     teller: &mut Teller<'_, E>,
 ) -> Result<(Replica<R>, Report), CommandError> {
     let mut watch = ItemsTold {
@@ -108,6 +151,7 @@ fn reconcile_opened<F: EditedFolder, R: Disk + Drop, A: Disk, E: Write>(
         command.user,
         command.preference,
         when_empty(command),
+        before,
         &mut watch,
     );
     teller.end();
@@ -133,9 +177,7 @@ pub fn plan_named<N: NamedDisks, F: Files, O: Write, E: Write>(
     let name = archive_name(alloc, command.file, command.archive)?;
     let replica = replica_to_read(alloc, disks, command.file)?;
     let identity = disks.identity(alloc, command.file, Access::Read)?;
-    let keeper = MarksKeeper::open(alloc, disks, &name, command.is_anew)?;
-    keeper.check(&keeper.ask(identity, &replica)?)?;
-    let folder = SystemFolder::open_or_missing(alloc, files, command.folder)?;
+    let folder = SystemFolder::open_to_plan(alloc, files, command.folder)?;
     tell_strangers(&folder, errors);
     let asked = PlanOfFolder {
         folder: &folder,
@@ -146,13 +188,18 @@ pub fn plan_named<N: NamedDisks, F: Files, O: Write, E: Write>(
         let archive = empty_archive(alloc, replica.pair())?;
         return asked.print(alloc, &archive, output, errors);
     }
-    match disks.lock(&name, Access::Read) {
+    let archive = match disks.lock(&name, Access::Read) {
         Err(error) if is_missing(&error) => {
             let archive = empty_archive(alloc, replica.pair())?;
-            asked.print(alloc, &archive, output, errors)
+            return asked.print(alloc, &archive, output, errors);
         }
-        locked => asked.print(alloc, &archive_on(alloc, locked?)?, output, errors),
-    }
+        locked => archive_on(alloc, locked?)?,
+    };
+    let keeper = MarksKeeper::open(alloc, disks, &name, !has_marks(&archive))?;
+    let found = keeper.ask(identity, &replica)?;
+    keeper.check(&found)?;
+    drop(stamping_of(alloc, &folder, &archive, &keeper, found)?);
+    asked.print(alloc, &archive, output, errors)
 }
 
 /// A folder and a replica whose plan a command asks for.
@@ -347,9 +394,10 @@ fn command_error_of<E: Write>(
         }
         ReconcileError::Replica(error) => CommandError::Replica(error),
         ReconcileError::Archive(error) => CommandError::Archive(error),
-        ReconcileError::TooMany | ReconcileError::OtherPair | ReconcileError::Unplanned(_) => {
-            CommandError::Refused(error.refusal())
-        }
+        ReconcileError::TooMany
+        | ReconcileError::OtherPair
+        | ReconcileError::Unplanned(_)
+        | ReconcileError::Unready(_) => CommandError::Refused(error.refusal()),
         ReconcileError::Memory => CommandError::Memory,
     }
 }

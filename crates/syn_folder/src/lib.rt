@@ -41,4 +41,4 @@ pub use folder::{Folder, WrittenFolder};
 pub use import::{all_known, skipping};
 pub use kept::Kept;
 pub use stranger::{Strangeness, Stranger};
-pub use system::{ExportedFolder, Glimpse, SystemFolder, take_glimpse};
+pub use system::{ExportedFolder, Glimpse, StampFile, SystemFolder, take_glimpse};

@@ -23,6 +23,9 @@ pub enum Strangeness {
     Count,
     /// It is the folder itself, and takes more bytes in all than a replica has.
     Room,
+    /// It is a directory on another file system than the folder itself, as one is in which something
+    /// is mounted.
+    Elsewhere,
     /// It has a name `.syn` in its path, which a folder keeps for what belongs to `syn` itself.
     Own,
 }
@@ -66,6 +69,7 @@ impl fmt::Display for Stranger {
             Strangeness::Locked => write!(f, "{text:?} may not be read"),
             Strangeness::Count => write!(f, "{text:?} has more than 1023 files and directories"),
             Strangeness::Room => write!(f, "{text:?} takes more than 526336 bytes in all"),
+            Strangeness::Elsewhere => write!(f, "{text:?} lies on another file system"),
             Strangeness::Own => write!(f, "{text:?} has a name that belongs to syn itself"),
         }
     }

@@ -32,6 +32,7 @@ mod place;
 mod reading;
 mod replacing;
 mod stage;
+mod stamp;
 mod streams;
 mod walking;
 mod writing;
@@ -44,6 +45,9 @@ use looks::Looked;
 use open_dir::OpenDir;
 use picture::FolderRead;
 use reading::read_folder;
+pub use stamp::StampFile;
+use stamp::make_folder;
+use walking::Mounts;
 
 /// A folder of the system, with what stands in it in memory.
 ///
@@ -82,12 +86,25 @@ impl<'a, F: Files> SystemFolder<'a, F> {
             (⟦<SystemFolder<'a, F> as Folder>⟧.tree folder)
             (⟦<SystemFolder<'a, F> as Folder>⟧.strangers folder)) }
     {
+        SystemFolder::open_with(alloc, files, root, at, Mounts::Entered)
+    }
+
+    /// The same, where what is mounted below the folder is a part of it, or is not.
+    fn open_with(
+        alloc: Global,
+        files: &'a F,
+        root: &'a str,
+        at: &Path,
+        mounts: Mounts,
+    ) -> Result<Self, FolderError>
+        ensures { IfOk result (λ folder. IsFolderRead at.now folder.tree folder.strangers.items) }
+    {
         check_notes(alloc, files, root)?;
         let FolderRead {
             tree,
             strangers,
             looks,
-        } = read_folder(alloc, files, root, at.key())?;
+        } = read_folder(alloc, files, root, at.key(), mounts)?;
         Ok(SystemFolder {
             files,
             root,
@@ -116,9 +133,27 @@ impl<'a, F: Files> SystemFolder<'a, F> {
         }
     }
 
+    /// The same as `open_to_edit` reads it, for a plan: nothing is written. Refused as `open` is.
+    pub fn open_to_plan(alloc: Global, files: &'a F, root: &'a str) -> Result<Self, FolderError>
+        ensures { IfOk result (λ folder. IsReadOrMissing
+            (⟦<SystemFolder<'a, F> as Folder>⟧.tree folder)
+            (⟦<SystemFolder<'a, F> as Folder>⟧.strangers folder)) }
+    {
+        match files.metadata(root) {
+            Err(error) if error.kind() == io::ErrorKind::NotFound => {
+                SystemFolder::missing(alloc, files, root)
+            }
+            _ => {
+                let at = Path::root(alloc);
+                SystemFolder::open_with(alloc, files, root, &at, Mounts::Apart)
+            }
+        }
+    }
+
     /// The same for a folder that is to be edited. What a replacement that was cut off has moved
     /// away is put back first, if its place is free, and is told among what is kept. All goes
-    /// through the one directory that is open then, whatever gets the folder's name meanwhile.
+    /// through the one directory that is open then, whatever gets the folder's name meanwhile. What
+    /// is mounted below it is told as a stranger, and left alone.
     pub fn open_to_edit(alloc: Global, files: &'a F, root: &'a str) -> Result<Self, FolderError>
         ensures { IfOk result (λ folder. IsReadOrMissing
             (⟦<SystemFolder<'a, F> as Folder>⟧.tree folder)
@@ -137,7 +172,7 @@ impl<'a, F: Files> SystemFolder<'a, F> {
             tree,
             strangers,
             looks,
-        } = read_folder(alloc, files, itself.as_str(), at.key())?;
+        } = read_folder(alloc, files, itself.as_str(), at.key(), Mounts::Apart)?;
         Ok(SystemFolder {
             files,
             root,
@@ -174,6 +209,13 @@ impl<'a, F: Files> SystemFolder<'a, F> {
     pub fn kept(&self) -> &[Kept] {
         self.kept.as_slice()
     }
+
+    /// The file by which the folder is known beside its marks.
+    ///
+    /// Refused 9 where the system refuses to open the folder's directory once more.
+    pub fn stamp_file(&self) -> Result<StampFile<'a, F>, FolderError> {
+        Ok(StampFile::new(self.files, self.root, self.top.as_ref())?)
+    }
 }
 
 impl<F: Files> SystemFolder<'_, F> {
@@ -183,7 +225,7 @@ impl<F: Files> SystemFolder<'_, F> {
         ensures strangers { self.new.strangers ≡ self.old.strangers }
     {
         if self.is_missing {
-            self.files.create_dir(self.root)?;
+            make_folder(self.files, self.root)?;
             self.is_missing = false;
         }
         Ok(())

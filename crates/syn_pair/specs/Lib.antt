@@ -1,4 +1,5 @@
 pub mod Belongs
+pub mod Folders
 pub mod Following
 pub mod Known
 pub mod Marks

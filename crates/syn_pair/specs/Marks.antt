@@ -4,6 +4,7 @@ use Rattle.syn_message.specs.Statuses.{stated_spelling}
 use Rattle.syn_model.specs.Path.{Bytes}
 use Rattle.syn_model.specs.Refusal.{Refusal, WrongPair}
 use Rattle.syn_pair.specs.Belongs.{GoesOn, HasCause}
+use Rattle.syn_pair.specs.Folders.{Stamp, stamp_spelling}
 use Rattle.syn_pair.specs.Known.{Stated, stated_of}
 use Rattle.syn_pair.specs.Refusals.{refusal_for}
 use Rattle.syn_pair.specs.Sides.{SideState, side_of}
@@ -32,7 +33,9 @@ abbrev pub flag_spelling : Bool → Bytes
 flag_spelling false = 0 ∷ []
 flag_spelling true = 1 ∷ []
 
--- "SYNM" and the version, 1 where the replica has parted from the marks, and what it stated
-abbrev pub marked_spelling : Bool → Stated → Bytes
-marked_spelling is_parted stated =
-    (0x53 ∷ 0x59 ∷ 0x4e ∷ 0x4d ∷ 1 ∷ []) ++ (flag_spelling is_parted ++ stated_spelling stated)
+-- "SYNM" and the version, 1 where the replica has parted from the marks, the folder's stamp, and
+-- what the replica stated
+abbrev pub marked_spelling : Bool → Stamp → Stated → Bytes
+marked_spelling is_parted folder stated =
+    (0x53 ∷ 0x59 ∷ 0x4e ∷ 0x4d ∷ 1 ∷ []) ++ (flag_spelling is_parted
+    ++ (stamp_spelling folder ++ stated_spelling stated))

@@ -27,17 +27,21 @@
 //!   they are of (`of`: `AreOf`): its history goes on from what is known of it, and no older copy
 //!   of it was found before. A refusal has its cause (`not_of`: `AreNotOf`). `encode` and `decode`
 //!   are its bytes (`marked_spelling`).
+//! - `FolderStamp::check` allows marks to be used with no folder but their own, in step with them or
+//!   one ahead (`of`: `AreOfFolder`). A refusal has its cause (`not_of`: `AreNotOfFolder`).
 //! - `KnownSides::entry_for` gives the entry of the identity, whichever side it was then
 //!   (`IsEntryFor`).
 #![tactic(auto)]
 
 mod check;
+mod folder;
 mod following;
 mod known;
 mod marks;
 mod side;
 
 pub use check::{ArchiveStatus, Belonging, Cause, Mismatch, check_pair};
+pub use folder::{FOLDER_NUMBER_LENGTH, FolderMismatch, FolderNumber, FolderStamp};
 pub use following::session_after;
 pub use known::{decode_known, encode_known};
 pub use marks::{MarkedReplica, MarksMismatch};

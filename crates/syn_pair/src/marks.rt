@@ -1,11 +1,13 @@
 //! The replica that a folder's marks are of.
 ghost use Rattle.std.specs.Prelude.{◌≡◌, IfErr, IfOk, IfSome, OnOk};
+ghost use Rattle.syn_pair.specs.Folders.{stamp_of};
 ghost use Rattle.syn_pair.specs.Known.{stated_of};
 ghost use Rattle.syn_pair.specs.Marks.{AreNotOf, AreOf, marked_spelling, refusal_of};
 ghost use Rattle.syn_pair.specs.Sides.{side_of};
 ghost use Rattle.syn_refusal.specs.Refusals.{cause_of};
 
 use crate::check::{Cause, check_history};
+use crate::folder::{FolderStamp, read_stamp};
 use crate::known::read_side;
 use crate::side::SideStatus;
 use std::alloc::Global;
@@ -16,7 +18,7 @@ use syn_wire::{ReadError, Reader, WireError};
 /// "SYNM" and the version.
 const FRONT: [u8; 5] = *b"SYNM\x01";
 
-/// What is known of the replica that a folder's marks are of.
+/// What is known of the replica and of the folder that marks are of.
 #[derive(Debug, Drop)]
 pub struct MarkedReplica {
     /// What it said of itself when folder and replica were last in step.
@@ -24,6 +26,8 @@ pub struct MarkedReplica {
     /// Whether an older copy of it was found since. What the marks say is of no use beside such a
     /// one, however many events it gets later.
     pub is_parted: bool,
+    /// What the folder is known by.
+    pub folder: FolderStamp,
 }
 
 /// Why a folder's marks are not of a replica.
@@ -75,16 +79,18 @@ impl MarkedReplica {
     }
 
     /// The bytes of it: "SYNM", the version 1, a byte that is 1 where the replica has parted from
-    /// the marks, and what it stated.
+    /// the marks, the stamp of the folder, and what the replica stated.
     ///
     /// Refused 11 where memory is refused.
     pub fn encode(&self, alloc: Global) -> Result<Vec<u8>, WireError>
         ensures { IfOk result (λ bytes. bytes.items
-            ≡ marked_spelling self.now.is_parted (stated_of self.now.known)) }
+            ≡ marked_spelling self.now.is_parted (stamp_of self.now.folder)
+            (stated_of self.now.known)) }
     {
         let mut bytes = Vec::new(alloc);
         bytes.extend_from_slice(&FRONT)?;
         bytes.push(u8::from(self.is_parted))?;
+        self.folder.write(&mut bytes)?;
         write_stated(&mut bytes, self.known.identity, &self.known.status)?;
         Ok(bytes)
     }
@@ -94,7 +100,7 @@ impl MarkedReplica {
     /// Refused 11 where memory is refused.
     pub fn decode(alloc: Global, bytes: &[u8]) -> Result<Option<MarkedReplica>, WireError>
         ensures { IfOk result (λ read. IfSome read (λ marked. bytes.now
-            ≡ marked_spelling marked.is_parted (stated_of marked.known))) }
+            ≡ marked_spelling marked.is_parted (stamp_of marked.folder) (stated_of marked.known))) }
     {
         match read_marked(&mut Reader::new(bytes), alloc) {
             Ok(marked) => Ok(Some(marked)),
@@ -106,7 +112,7 @@ impl MarkedReplica {
 
 fn read_marked(reader: &mut Reader<'_>, alloc: Global) -> Result<MarkedReplica, ReadError>
     ensures { IfOk result (λ marked. reader.old
-        ≡ marked_spelling marked.is_parted (stated_of marked.known)) }
+        ≡ marked_spelling marked.is_parted (stamp_of marked.folder) (stated_of marked.known)) }
 {
     if reader.array::<5>()? != FRONT {
         return Err(ReadError::Malformed);
@@ -116,7 +122,12 @@ fn read_marked(reader: &mut Reader<'_>, alloc: Global) -> Result<MarkedReplica, 
         1 => true,
         _ => return Err(ReadError::Malformed),
     };
+    let folder = read_stamp(reader)?;
     let known = read_side(reader, alloc)?;
     reader.end()?;
-    Ok(MarkedReplica { known, is_parted })
+    Ok(MarkedReplica {
+        known,
+        is_parted,
+        folder,
+    })
 }

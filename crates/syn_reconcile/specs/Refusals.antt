@@ -6,7 +6,7 @@ use Rattle.syn_refusal.specs.Refusals.{cause_of}
 use Rattle.syn_replica.specs.ErrorRefusals.{refusal_of as of_replica}
 use Rattle.syn_reconcile.specs.declared.error.ReconcileError.{ReconcileError}
 use Rattle.syn_reconcile.specs.declared.error.ReconcileError.TheVariants.{Empty, TooMany, OtherPair}
-use Rattle.syn_reconcile.specs.declared.error.ReconcileError.TheVariants.{Unplanned, Replica}
+use Rattle.syn_reconcile.specs.declared.error.ReconcileError.TheVariants.{Unplanned, Unready, Replica}
 use Rattle.syn_reconcile.specs.declared.error.ReconcileError.TheVariants.{Archive, Memory}
 
 abbrev pub refusal_of : ReconcileError → Refusal
@@ -14,6 +14,7 @@ refusal_of (Empty side) = why.Absent
 refusal_of TooMany = why.Full
 refusal_of OtherPair = why.WrongPair
 refusal_of (Unplanned refusal) = cause_of refusal
+refusal_of (Unready refusal) = cause_of refusal
 refusal_of (Replica error) = of_replica error
 refusal_of (Archive error) = of_archive error
 refusal_of Memory = why.Memory

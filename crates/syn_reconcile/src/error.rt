@@ -24,6 +24,8 @@ pub enum ReconcileError {
     OtherPair,
     /// There is no plan: 11, since memory was refused. Nothing was changed.
     Unplanned(Refusal),
+    /// What has to be done before the first item is refused. Nothing was changed.
+    Unready(Refusal),
     /// The replica refuses edits. What was carried out before stands.
     Replica(ReplicaError),
     /// The archive refuses a record. What was carried out before stands, and so does what was to be
@@ -42,7 +44,7 @@ impl ReconcileError {
             ReconcileError::Empty(_) => Refusal::Absent,
             ReconcileError::TooMany => Refusal::Full,
             ReconcileError::OtherPair => Refusal::WrongPair,
-            ReconcileError::Unplanned(refusal) => *refusal,
+            ReconcileError::Unplanned(refusal) | ReconcileError::Unready(refusal) => *refusal,
             ReconcileError::Replica(error) => error.refusal(),
             ReconcileError::Archive(error) => error.refusal(),
             ReconcileError::Memory => Refusal::Memory,

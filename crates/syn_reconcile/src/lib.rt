@@ -25,6 +25,7 @@
 //!   above or below it in the folder, or changes what the replica has at its path (`apart`).
 //! - Where the folder or the replica is empty and the marks are not, nothing is carried unless that
 //!   is asked for (`emptied`), and marks of another pair are refused (`pair`).
+//! - Nothing is carried out or recorded before the caller's `BeforeItems` has begun (`begun`).
 //! - The folder changes by `replace` alone, which looks first whether what is there is what was
 //!   read. The laws of the plan say what that is: what the marks have, or what another side is
 //!   preferred to.
@@ -73,4 +74,4 @@ pub use error::ReconcileError;
 pub use report::{Report, Settled, Settlement};
 pub use run::{plan, reconcile};
 pub use shared::reconcile_shared;
-pub use watch::ItemWatch;
+pub use watch::{BeforeItems, ItemWatch};

@@ -21,7 +21,7 @@ use crate::checks::{WhenEmpty, check_empty, check_pair, check_whole};
 use crate::error::ReconcileError;
 use crate::items::carry_all;
 use crate::report::Report;
-use crate::watch::ItemWatch;
+use crate::watch::{BeforeItems, ItemWatch};
 use std::alloc::Global;
 use syn_archive::Archive;
 use syn_disk::Disk;
@@ -100,12 +100,12 @@ pub(crate) fn plan_seen<F: EditedFolder, A: Disk>(
 
 /// Makes the folder, which is the left side, and the replica, which is the right, the same, as far
 /// as both were not changed at one path: it carries out what `plan` gives. It answers what came of
-/// each item, and tells `watch` of each as it is settled.
+/// each item, and tells `watch` of each as it is settled. Before the first one `before` begins.
 ///
-/// Refused as `plan` is, before anything is changed, and as the replica or the archive refuses a
-/// change: what was carried out before stands then, and the same call goes on. The replica's disk
-/// comes back.
-pub fn reconcile<F: EditedFolder, R: Disk, A: Disk, W: ItemWatch>(
+/// Refused as `plan` is, and as `before` is, before anything is changed, and as the replica or the
+/// archive refuses a change: what was carried out before stands then, and the same call goes on.
+/// The replica's disk comes back.
+pub fn reconcile<F: EditedFolder, R: Disk, A: Disk, B: BeforeItems, W: ItemWatch>(
     alloc: Global,
     folder: &mut F,
     replica: Replica<R>,
@@ -113,6 +113,7 @@ pub fn reconcile<F: EditedFolder, R: Disk, A: Disk, W: ItemWatch>(
     user: u32,
     preference: Option<Side>,
     when_empty: WhenEmpty,
+    before: &mut B,
     watch: &mut W,
 ) -> Result<(Replica<R>, Report), (ReconcileError, R)>
     ensures plan { IfOk result (λ done. items_in done.1.settled.items
@@ -180,6 +181,7 @@ pub fn reconcile<F: EditedFolder, R: Disk, A: Disk, W: ItemWatch>(
     ensures apart { (history : History) (kept : Kept) → Stands replica history
         → Keeps archive.old kept → IfOk result (λ done. AreApart (F.strangers folder.old)
         (trees_of (F.tree folder.old) replica archive.old) done.1.settled.items) }
+    ensures begun { OnOk result (B.has_begun before.new) }
 {
     plan_laws();
     tell_types(folder, replica.tree(), archive);
@@ -188,6 +190,9 @@ pub fn reconcile<F: EditedFolder, R: Disk, A: Disk, W: ItemWatch>(
         Err(error) => return Err((error, replica.into_disk())),
     };
     let items = compared.items;
+    if let Err(refusal) = before.begin(items.len()) {
+        return Err((ReconcileError::Unready(refusal), replica.into_disk()));
+    }
     watch.planned(items.len());
     let (replica, settled) = carry_all(alloc, folder, replica, archive, user, items, watch)?;
     Ok((replica, Report { settled }))

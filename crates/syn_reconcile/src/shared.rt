@@ -1,5 +1,5 @@
 //! Makes a folder the same as a replica that others go on editing.
-ghost use Rattle.std.specs.Prelude.{◌≡◌, IfErr, IfNone, IfOk, None};
+ghost use Rattle.std.specs.Prelude.{◌≡◌, IfErr, IfNone, IfOk, None, OnOk};
 ghost use Rattle.syn_archive.specs.Archive.{Stands as Keeps, disk_of as marks_disk};
 ghost use Rattle.syn_archive.specs.Archive.{marks_shown, pair_of as marks_pair};
 ghost use Rattle.syn_disk.specs.Stops.{LeavesOnly};
@@ -25,6 +25,7 @@ use crate::marks::{MarkedPart, marked_part, record};
 use crate::report::{Report, Settled};
 use crate::run::{plan_seen, tell_types};
 use crate::strangers::leaves_alone;
+use crate::watch::BeforeItems;
 use std::alloc::Global;
 use std::sync::Wait;
 use syn_archive::Archive;
@@ -55,12 +56,12 @@ struct SharedSide<'a, H, R: Disk> {
 /// what the replica has in one hold of its lock. What the folder changed is put into the replica in
 /// a hold for each item, which is refused 13 where somebody touched the path since the first one.
 /// What the replica had in that first hold is put into the folder. It answers what came of each
-/// item.
+/// item. Before the first one `before` begins.
 ///
-/// Refused as `plan` is, before anything is changed, 9 and 10 where the replica's device fails, and
+/// Refused as `plan` is, and as `before` is, before anything is changed, 9 and 10 where the replica's device fails, and
 /// as the archive refuses a record: what was carried out before stands then, and the same call goes
 /// on.
-pub fn reconcile_shared<H: Wait, F: EditedFolder, R: Disk, A: Disk>(
+pub fn reconcile_shared<H: Wait, F: EditedFolder, R: Disk, A: Disk, B: BeforeItems>(
     rt: &H,
     alloc: Global,
     folder: &mut F,
@@ -69,6 +70,7 @@ pub fn reconcile_shared<H: Wait, F: EditedFolder, R: Disk, A: Disk>(
     archive: &mut Archive<A>,
     user: u32,
     when_empty: WhenEmpty,
+    before: &mut B,
 ) -> Result<Report, ReconcileError>
     requires { IsFor shared.now pass.old }
     ensures of { IsFor shared.now pass.new }
@@ -87,6 +89,7 @@ pub fn reconcile_shared<H: Wait, F: EditedFolder, R: Disk, A: Disk>(
     ensures any_mark { (kept : Kept) → Keeps archive.old kept
         → LeavesOnly A.moment A.left_since (marks_disk archive.old) (marks_disk archive.new)
         (HasSharedMarks shared.now user (F.tree folder.old) archive.old pass.old) }
+    ensures begun { OnOk result (B.has_begun before.new) }
 {
     plan_laws();
     let seen = shared.snapshot(rt, alloc, pass)?;
@@ -94,13 +97,17 @@ pub fn reconcile_shared<H: Wait, F: EditedFolder, R: Disk, A: Disk>(
     let compared = plan_seen(
         alloc, folder, &seen.tree, seen.pair, archive, None, when_empty,
     )?;
+    let items = compared.items;
+    if let Err(refusal) = before.begin(items.len()) {
+        return Err(ReconcileError::Unready(refusal));
+    }
     let side = SharedSide {
         rt,
         shared,
         user,
         seen: &seen,
     };
-    let settled = carry_each(alloc, folder, &side, pass, archive, compared.items)?;
+    let settled = carry_each(alloc, folder, &side, pass, archive, items)?;
     Ok(Report { settled })
 }
 

@@ -43,8 +43,8 @@ fn are_alike(looks: &[Look], others: &[Look]) -> bool
     looks == others
 }
 
-/// Looks at the folder of this name and at all that stands in it. A folder that is missing looks as
-/// nothing does.
+/// Looks at the folder of this name and at all that stands in it on its file system. A folder that
+/// is missing looks as nothing does.
 ///
 /// Refused 9 where the system refuses it otherwise than for what is gone or may not be read, and 11
 /// where memory is refused.
@@ -80,6 +80,14 @@ pub fn take_glimpse<F: Files>(
 }
 
 impl Glimpse {
+    /// What looks so lies on the file system of the folder itself.
+    fn lies_here(&self, look: &Look) -> bool {
+        match self.looks.first() {
+            Some(folder) => look.lies_with(folder),
+            None => true,
+        }
+    }
+
     /// Notes what the directory at the system's path lists, and how each of that looks. The
     /// directories in it are to be looked into next.
     fn look_into<F: Files>(
@@ -120,10 +128,11 @@ impl Glimpse {
         system_path.push_str(name)?;
         match files.symlink_metadata(system_path.as_str()) {
             Ok(there) => {
-                self.looks.push(Look::of(&there))?;
-                if there.is_dir() {
+                let look = Look::of(&there);
+                if there.is_dir() && self.lies_here(&look) {
                     pending.push(system_path)?;
                 }
+                self.looks.push(look)?;
                 Ok(())
             }
             Err(error) if is_hidden(&error) => Ok(()),

@@ -34,8 +34,9 @@ pub(super) fn look_at_folder<F: Files>(
     list(alloc, files, root, &there, listing)
 }
 
-/// Looks at what stands at the path. Where there are too many files already, the bytes of one are
-/// not read.
+/// Looks at what stands at the path. A directory that lies on another file system than the folder,
+/// where that is told, is not looked into. Where there are too many files already, the bytes of one
+/// are not read.
 ///
 /// Refused 9 where the system refuses it otherwise than for what is gone or may not be read, and 11
 /// where memory is refused.
@@ -43,13 +44,25 @@ pub(super) fn look_at<F: Files>(
     alloc: Global,
     files: &F,
     root: &str,
+    folder: Option<Look>,
     path: &Path,
     are_enough: bool,
 ) -> Result<Shown, FolderError> {
     let system_path = system_path_of(alloc, root, path.names())?;
     match files.symlink_metadata(system_path.as_str()) {
+        Ok(there) if there.is_dir() && lies_elsewhere(Look::of(&there), folder) => {
+            Ok(Shown::Strange(Strangeness::Elsewhere))
+        }
         Ok(there) => show(alloc, files, system_path.as_str(), &there, are_enough),
         Err(error) => unseen(error),
+    }
+}
+
+/// What looks so lies on another file system than the folder, where that is told.
+fn lies_elsewhere(look: Look, folder: Option<Look>) -> bool {
+    match folder {
+        Some(folder) => !look.lies_with(&folder),
+        None => false,
     }
 }
 

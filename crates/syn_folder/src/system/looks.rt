@@ -44,6 +44,11 @@ impl Look {
         self.device == other.device && self.node == other.node
     }
 
+    /// Both lie on one file system.
+    pub(super) fn lies_with(&self, other: &Look) -> bool {
+        self.device == other.device
+    }
+
     /// The other is the look of the same file before it was moved, and it was not written since nor
     /// got another mode. A file that is moved has another time of change.
     pub(super) fn is_moved_from(&self, other: &Look) -> bool {

@@ -15,7 +15,7 @@ use crate::system::open_dir::{OpenDir, is_none_there};
 use crate::system::own::{OwnDirs, made_in};
 use crate::system::replacing::changed;
 use crate::system::stage::Stage;
-use crate::system::walking::walk_folder;
+use crate::system::walking::{Mounts, walk_folder};
 use crate::system::writing::above;
 use std::alloc::Global;
 use std::fs::Files;
@@ -196,7 +196,7 @@ impl<F: Files> SystemPlace<'_, F> {
             Ok(there) if there.is_dir() => self.look_below(alloc, dir),
             Ok(_) => {
                 let (itself, last) = (dir.itself(alloc)?, self.last(alloc)?);
-                let shown = look_at(alloc, self.files, itself.as_str(), &last, false);
+                let shown = look_at(alloc, self.files, itself.as_str(), None, &last, false);
                 let (path, shown) = (Path::root(alloc), shown.map_err(cause_of)?);
                 seen.push(Seen { path, shown })?;
                 Ok(seen)
@@ -211,7 +211,7 @@ impl<F: Files> SystemPlace<'_, F> {
         match dir.open_in(self.name()) {
             Ok(open) => {
                 let (itself, at) = (open.itself(alloc)?, self.path.key());
-                let walk = walk_folder(alloc, self.files, itself.as_str(), at);
+                let walk = walk_folder(alloc, self.files, itself.as_str(), at, Mounts::Apart);
                 Ok(walk.map_err(cause_of)?.looks)
             }
             Err(error) if is_none_there(&error) => Ok(Vec::new(alloc)),

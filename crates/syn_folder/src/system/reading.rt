@@ -7,7 +7,7 @@ ghost use Rattle.syn_folder.specs.declared.system.looks.Seen.{Seen as Look};
 use crate::error::FolderError;
 use crate::system::looks::{Seen, Shown};
 use crate::system::picture::{FolderRead, picture};
-use crate::system::walking::{Walk, walk_folder};
+use crate::system::walking::{Mounts, Walk, walk_folder};
 use std::alloc::{AllocError, Global};
 use std::fs::Files;
 use syn_path::{Key, Path};
@@ -22,15 +22,16 @@ pub(super) fn read_folder<F: Files>(
     files: &F,
     root: &str,
     at: Key,
+    mounts: Mounts,
 ) -> Result<FolderRead, FolderError>
     ensures { IfOk result (λ read. IsFolderRead at read.tree read.strangers.items) }
 {
-    let first = walk_folder(alloc, files, root, at)?;
+    let first = walk_folder(alloc, files, root, at, mounts)?;
     if first.is_over() {
         let changed = changed_in(alloc, &first.looks)?;
         return unchanged(alloc, first, changed);
     }
-    let second = walk_folder(alloc, files, root, at)?;
+    let second = walk_folder(alloc, files, root, at, mounts)?;
     let changed = changed_between(alloc, &first, &second)?;
     unchanged(alloc, second, changed)
 }

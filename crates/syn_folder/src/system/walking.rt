@@ -7,14 +7,35 @@ ghost use Rattle.syn_folder.specs.Looks.{IsChildOf, IsEntered, IsFollowed, liste
 use crate::error::FolderError;
 use crate::system::listing::children_of;
 use crate::system::looking::{look_at, look_at_folder};
-use crate::system::looks::{Seen, Shown};
+use crate::system::looks::{Look, Seen, Shown};
 use std::alloc::Global;
 use std::fs::Files;
+use std::io;
 use syn_path::{Key, Path};
 use syn_tree::measures::MOST_BELOW;
 
 /// How many files, directories and others of a folder are looked at.
 pub(super) const MOST_LOOKED: usize = 65_536;
+
+/// What is mounted in a directory of a folder.
+#[derive(Clone, Copy, Debug, PartialEq, Eq)]
+pub(super) enum Mounts {
+    /// It is a part of the folder.
+    Entered,
+    /// It can stand in no replica, and is left alone.
+    Apart,
+}
+
+impl Mounts {
+    /// The look of the folder of this name, where only what lies on its file system is a part of
+    /// it.
+    fn bounds<F: Files>(self, files: &F, root: &str) -> io::Result<Option<Look>> {
+        match self {
+            Mounts::Entered => Ok(None),
+            Mounts::Apart => Ok(Some(Look::of(&files.metadata(root)?))),
+        }
+    }
+}
 
 /// What was looked at in a folder.
 #[derive(Drop)]
@@ -38,6 +59,7 @@ pub(super) fn walk_folder<F: Files>(
     files: &F,
     root: &str,
     at: Key,
+    mounts: Mounts,
 ) -> Result<Walk, FolderError>
     ensures at { IfOk result (λ walk. walk.at ≡ at) }
     ensures entered { IfOk result (λ walk. IsEntered walk.looks.items) }
@@ -50,13 +72,14 @@ pub(super) fn walk_folder<F: Files>(
         pending: Vec::new(alloc),
         nodes: 0,
     };
+    let bounds = mounts.bounds(files, root)?;
     let folder = look_at_folder(alloc, files, root)?;
     walk.take(alloc, Path::root(alloc), folder)?;
     for _looked in 0..MOST_LOOKED {
         let Some(path) = walk.pending.pop() else {
             break;
         };
-        let shown = look_at(alloc, files, root, &path, walk.are_enough())?;
+        let shown = look_at(alloc, files, root, bounds, &path, walk.are_enough())?;
         walk.take(alloc, path, shown)?;
     }
     Ok(walk)

@@ -36,6 +36,26 @@ returns-in-Err-clause-stopped g c history kept stands keeps =
     (stays c.args.user history found folder old marks kept stands keeps refl) refl refl
     c.into_disk.ensures
 
+pub returns-in-Err-begin-clause-any_moment : goal.returns-in-Err-begin-clause-any_moment
+returns-in-Err-begin-clause-any_moment g c history kept stands keeps =
+    rw c.into_disk-in-Err-begin.ensures (started_tree _ _ c.args.replica c.args.archive.now
+    g.met.R.Disk.only_now c.args.user history stands)
+
+pub returns-in-Err-begin-clause-any_mark : goal.returns-in-Err-begin-clause-any_mark
+returns-in-Err-begin-clause-any_mark g c history kept stands keeps =
+    started_marks _ _ c.args.replica c.args.archive.now g.met.A.Disk.only_now kept keeps
+
+pub returns-in-Err-begin-clause-stopped : goal.returns-in-Err-begin-clause-stopped
+returns-in-Err-begin-clause-stopped g c history kept stands keeps =
+    let folder = g.F.EditedFolder.tree c.args.folder.now in
+    let old = c.args.replica in
+    let marks = c.args.archive.now in
+    let found = trees_of folder old marks in
+    stopped_between _ found found c.args.user history folder old marks (pair_of old)
+    (marks_pair marks) c.into_disk-in-Err-begin.result (none_yet _ folder old marks)
+    (stays c.args.user history found folder old marks kept stands keeps refl) refl refl
+    c.into_disk-in-Err-begin.ensures
+
 pub returns-in_err-replica-clause-any_moment : goal.returns-in_err-replica-clause-any_moment
 returns-in_err-replica-clause-any_moment g c history kept stands keeps =
     match_of_exit c.from_residual.result c.in_err-replica.field-0.0 _ _ c.from_residual.ensures.1

@@ -38,6 +38,20 @@ returns-in_err-compared-clause-any_mark g c kept keeps =
     unwritten g.met.A.Disk.only_now c.args.archive.now kept keeps _
     (λ bytes has. shared.HasSharedMarks.at_first has)
 
+pub returns-in-Err-clause-stopped : goal.returns-in-Err-clause-stopped
+returns-in-Err-clause-stopped g c kept keeps =
+    let folder = g.F.EditedFolder.tree c.args.folder.now in
+    let found = here folder c.in_ok-seen.seen.tree (marks_shown c.args.archive.now) in
+    shared.IsSharedStop.cut_short c.in_ok-seen.seen c.snapshot.new.pass c.in_ok-seen.ensures.held
+    (shared.IsCutShort.between [] (record { others = planned None found; are = refl })
+    (record { folder = refl; marks = record { kept = kept; keeps = keeps; are = refl } })
+    (shared.none c.snapshot.new.pass))
+
+pub returns-in-Err-clause-any_mark : goal.returns-in-Err-clause-any_mark
+returns-in-Err-clause-any_mark g c kept keeps =
+    unwritten g.met.A.Disk.only_now c.args.archive.now kept keeps _
+    (λ bytes has. shared.HasSharedMarks.at_first has)
+
 pub returns-in_err-settled-clause-stopped : goal.returns-in_err-settled-clause-stopped
 returns-in_err-settled-clause-stopped g c kept keeps =
     let folder = g.F.EditedFolder.tree c.args.folder.now in
