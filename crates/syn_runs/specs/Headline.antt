@@ -236,6 +236,21 @@ pub record StandsFor (before : Stores) (world : Picture) : Type 0 where
 abbrev pub formatted : Stores
 formatted = record { left = []; right = []; archive = new_archive }
 
+-- two sides, and an archive without marks that goes on after this session
+abbrev pub unmarked : History → History → ℕ → Stores
+unmarked left right session = record {
+  left = left;
+  right = right;
+  archive = record new_archive { last_session = session };
+}
+
+-- Such an archive makes a pair of any two sides, whatever they hold, where neither has begun a
+-- later session
+abbrev pub UnmarkedIsPair : Type 0
+UnmarkedIsPair = (left right : History) (session : ℕ) → IsHistory left → IsHistory right →
+    last_session left ≤ session → last_session right ≤ session →
+    IsPair (unmarked left right session)
+
 -- the archive had these marks at some moment of the run
 abbrev pub HadArchive : Stores → Picture → Tree → Type 0
 HadArchive before world marks = (acks : ℕ) × (acks ≤ length world.acknowledged)

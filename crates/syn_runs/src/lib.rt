@@ -32,7 +32,7 @@
 
 ghost use Rattle.syn_runs.specs.Laws.{ServesAllowed, PiecesAreUntouched, RepeatsAreDone};
 ghost use Rattle.syn_runs.specs.Laws.{LaterAreOld, DeadAreOld, ServesByReading};
-ghost use Rattle.syn_runs.specs.Headline.{formatted, IsPair};
+ghost use Rattle.syn_runs.specs.Headline.{formatted, IsPair, UnmarkedIsPair};
 ghost use Rattle.syn_runs.specs.Runs.{OfEachRun, RunsArePictured, RunsStand};
 ghost use Rattle.syn_runs.specs.Headline.{EachReplacementIsLegal, EachTokenOnce};
 ghost use Rattle.syn_runs.specs.Headline.{RecoveredIsLegal, EachEntryWasHeld, LeavesPair};
@@ -55,11 +55,15 @@ pub fn side_laws()
     ensures dead { DeadAreOld }
 {}
 
+/// Three formatted disks are a pair, and an archive without marks makes one of any two sides that
+/// have begun no session after its last.
+///
 /// Every run, with stops and failing devices, is one of the picture by the same steps. In it the
 /// machines stand for what was acknowledged, each replacement is legal, each plan is logged, and
 /// each report tells of its session, which no answer ends that does not belong to what was asked.
 pub fn run_laws()
     ensures formatted { IsPair formatted }
+    ensures unmarked { UnmarkedIsPair }
     ensures pictured { RunsArePictured }
     ensures stands { RunsStand }
     ensures legal { OfEachRun EachReplacementIsLegal }

@@ -9,6 +9,7 @@ mod OpeningLemmas
 mod WorldOpenLemmas
 mod PairLemmas
 mod CrashSafetyLemmas
+mod FollowingLemmas
 mod HeadlineLemmas
 mod PromiseLemmas
 mod CauseLemmas

@@ -1,5 +1,6 @@
 -- From the bytes of three disks before a run to whatever they may hold after it.
-use Rattle.std.specs.Prelude.{ℕ, ◌≡◌, List}
+use Rattle.std.specs.Prelude.{ℕ, ◌≡◌, ◌≤◌, List}
+use Rattle.syn_model.specs.History.{History, last_session}
 use Rattle.syn_model.specs.Path.{Bytes}
 use Rattle.syn_machine.specs.Network.{Which, Left, Right}
 use Rattle.syn_runs.specs.Acknowledged.{Stores, history_of, stores_after, Grown, ArchiveGrown}
@@ -7,8 +8,9 @@ use Rattle.syn_runs.specs.World.{World, Step, Runs}
 use Rattle.syn_runs.specs.World as model
 use Rattle.syn_runs.specs.Picture.{Picture, side_of}
 use Rattle.syn_runs.specs.Runs.{stores_of, picture_of, IsStart}
-use Rattle.syn_runs.specs.Headline.{IsPair}
+use Rattle.syn_runs.specs.Headline.{IsPair, unmarked}
 use Rattle.syn_journal.specs.Meaning.{IsDiskOf, IsOf, MayBeOf}
+use Rattle.syn_archive.specs.Archive.{archive_after}
 use Rattle.syn_archive.specs.Keepings.{of_archive}
 use Rattle.syn_replica.specs.Keepings.{of_side}
 
@@ -30,6 +32,15 @@ pub record DisksStand (pair : ℕ) (disks : DiskBytes) (stores : Stores) : Type 
       (history_of stores which)
   pub archive : IsDiskOf (of_archive pair) disks.archive stores.archive
   pub is_pair : IsPair stores
+
+-- The disks of two replicas of a pair, whatever their histories, and of its archive without marks
+-- are such disks, where the archive goes on after a session that neither replica has passed
+abbrev pub UnmarkedStand : Type 0
+UnmarkedStand = (pair session : ℕ) (disks : DiskBytes) (left right : History) →
+    IsDiskOf (of_side pair) disks.left left → IsDiskOf (of_side pair) disks.right right →
+    IsDiskOf (of_archive pair) disks.archive (archive_after session) →
+    last_session left ≤ session → last_session right ≤ session →
+    DisksStand pair disks (unmarked left right session)
 
 -- the world was just opened from the disks
 pub record IsOpenedFrom (pair : ℕ) (disks : DiskBytes) (world : World) : Type 0 where

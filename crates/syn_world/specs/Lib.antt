@@ -4,6 +4,7 @@ pub mod Steps
 pub mod Runs
 pub mod CrashSafety
 pub mod Openings
+pub mod Following
 pub mod Headlines
 pub mod Promises
 pub mod Outcomes

@@ -42,7 +42,9 @@
 //!   opened (`IsNotOpened`), or after a first part of the steps where memory was refused
 //!   (`IsCutShort`). Of any disks: those of no pair come back (`back`).
 //! - What the laws say of the bytes of three disks stands in `CrashSafety.antt`. Those of a pair
-//!   are a start of a run (`DisksAreStart`). What the code owes beside its steps is one invariant,
+//!   are a start of a run (`DisksAreStart`). An archive that `Archive::format_after` left makes
+//!   such disks with any two replicas of its pair that have begun no later session
+//!   (`following_laws`: `MeetPremise`). What the code owes beside its steps is one invariant,
 //!   `MayBeLeft`: whatever a stop may leave on the three disks may be of their machines then. So
 //!   it stands for what was acknowledged, with the change that each machine was making, or without
 //!   it (`RunsRecover`). The invariant rests on what a replica and an archive say of any moment of
@@ -106,7 +108,7 @@ pub use coordinator::{
 };
 pub use disk::SimulatedDisk;
 pub use headline::{recover, run};
-pub use laws::disk_laws;
+pub use laws::{disk_laws, following_laws};
 pub use lists::{Ack, Message};
 pub use machine::Machine;
 pub use outcome::{CoordinatorOutcome, SideOutcome};

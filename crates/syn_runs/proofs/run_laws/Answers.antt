@@ -1,5 +1,5 @@
 use Rattle.syn_runs.proofs.StandLemmas.{runs_stand}
-use Rattle.syn_runs.proofs.FormattedLemmas.{formatted_is_pair}
+use Rattle.syn_runs.proofs.FormattedLemmas.{formatted_is_pair, unmarked_is_pair}
 use Rattle.syn_runs.proofs.FineRuns.{replace_legally, use_tokens_once, hold_archive, leave_pair}
 use Rattle.syn_runs.proofs.FineRuns.{belong, is_pictured, log_plans}
 use Rattle.syn_runs.proofs.FineRuns.{owe, recover_legally, tell_reports}
@@ -15,6 +15,9 @@ returns-clause-stands c = runs_stand
 
 pub returns-clause-formatted : goal.returns-clause-formatted
 returns-clause-formatted c = formatted_is_pair
+
+pub returns-clause-unmarked : goal.returns-clause-unmarked
+returns-clause-unmarked c = unmarked_is_pair
 
 pub returns-clause-legal : goal.returns-clause-legal
 returns-clause-legal c = replace_legally

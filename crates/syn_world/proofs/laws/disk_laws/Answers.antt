@@ -1,4 +1,5 @@
 use Rattle.syn_world.proofs.CrashSafetyLemmas.{disks_are_start, runs_recover}
+use Rattle.syn_world.proofs.FollowingLemmas.{unmarked_stand}
 use Rattle.syn_world.proofs.PairLemmas.{run_keeps_pair}
 use Rattle.syn_world.proofs.laws.disk_laws.Goals as goal
 
@@ -10,3 +11,6 @@ returns-clause-recovered c = runs_recover c.run_laws.ensures.stands c.run_laws.e
 
 pub returns-clause-pair : goal.returns-clause-pair
 returns-clause-pair c old new steps runs = run_keeps_pair old steps new runs
+
+pub returns-clause-unmarked : goal.returns-clause-unmarked
+returns-clause-unmarked c = unmarked_stand c.run_laws.ensures.unmarked
