@@ -64,17 +64,18 @@ fn is_lost<E: Write>(held: &Held, name: &str, errors: &mut E) -> bool {
     true
 }
 
-/// Whether the next line of the input is a yes.
+/// The longest answer that is read.
+const LONGEST_ANSWER: usize = 4_096;
+
+/// Whether the next line of the input is a yes. A longer one than any answer is none.
 fn is_agreed<I: Read>(input: &mut I) -> bool {
     let mut first = None;
-    let mut byte = [0];
-    while let Ok(1) = input.read(&mut byte) {
-        if byte[0] == b'\n' {
-            break;
-        }
-        if first.is_none() {
-            first = Some(byte[0]);
+    for _ in 0..LONGEST_ANSWER {
+        let mut byte = [0];
+        match input.read(&mut byte) {
+            Ok(1) if byte[0] != b'\n' => first = first.or(Some(byte[0])),
+            _ => return first == Some(b'y') || first == Some(b'Y'),
         }
     }
-    first == Some(b'y') || first == Some(b'Y')
+    false
 }

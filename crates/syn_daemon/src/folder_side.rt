@@ -428,6 +428,13 @@ fn line_of(alloc: Global, root: &str, error: &LookError) -> Result<String, Alloc
         LookError::Reconcile(ReconcileError::Empty(Side::Right)) => {
             format!(in alloc; "folder refused 5 Absent: the replica is empty, and was not")
         }
+        LookError::Reconcile(ReconcileError::Unready(why)) => {
+            let number = why.number();
+            format!(in alloc;
+                "folder refused {number} {why}: {root}/.syn/folder, or what is known beside its \
+                    marks, cannot be written"
+            )
+        }
         LookError::Reconcile(error) => {
             let number = error.number();
             format!(in alloc; "folder refused {number} {error}")

@@ -392,12 +392,20 @@ fn command_error_of<E: Write>(
             );
             CommandError::Refused(error.refusal())
         }
+        ReconcileError::Unready(why) => {
+            let folder = command.folder;
+            let _ = writeln!(
+                errors,
+                "syn: {folder}/.syn/folder, or what is known beside the marks, cannot be written: \
+                    nothing was changed"
+            );
+            CommandError::Refused(why)
+        }
         ReconcileError::Replica(error) => CommandError::Replica(error),
         ReconcileError::Archive(error) => CommandError::Archive(error),
-        ReconcileError::TooMany
-        | ReconcileError::OtherPair
-        | ReconcileError::Unplanned(_)
-        | ReconcileError::Unready(_) => CommandError::Refused(error.refusal()),
+        ReconcileError::TooMany | ReconcileError::OtherPair | ReconcileError::Unplanned(_) => {
+            CommandError::Refused(error.refusal())
+        }
         ReconcileError::Memory => CommandError::Memory,
     }
 }
