@@ -221,7 +221,8 @@ fn make_room<H: Wait + Log, D: Disk>(
 }
 
 /// Makes folder and replica the same, where the folder is the one that the marks are of. Before
-/// anything is recorded the stamp of both is raised, and once all is it is kept where the replica is.
+/// anything is recorded the stamp of both is raised, and once all is, it is kept where the replica
+/// is.
 fn make_same<H, D, F, A, K>(
     rt: &H,
     alloc: Global,

@@ -11,8 +11,8 @@ use syn_pair::{FolderStamp, LAST_PLACE, MarkedReplica, SideStatus};
 use syn_refusal::Refusal;
 use syn_replica::Replica;
 
-/// What is known of the replica and of the folder that marks are of. Marks tell what was removed, so
-/// beside another replica or another folder, or an older copy of one of them, they would have files
+/// What is known of the replica and of the folder that marks are of. Marks tell what was removed.
+/// Beside another replica or another folder, or an older copy of one of them, they would have files
 /// removed that nobody has removed.
 #[derive(Drop)]
 pub(crate) struct MarksKeeper<'a, N> {

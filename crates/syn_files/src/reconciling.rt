@@ -30,8 +30,8 @@ use syn_replica::Replica;
 /// and what differs is a conflict.
 ///
 /// Refused as the replica and the archive are opened, 20 where the archive is not of this replica
-/// and this folder, or one of them is an older copy, 9 and 13 as the folder is read, and as `reconcile` is: what was
-/// carried before stands then, and the same line goes on.
+/// and this folder, or one of them is an older copy, 9 and 13 as the folder is read, and as
+/// `reconcile` is: what was carried before stands then, and the same line goes on.
 pub fn reconcile_named<N: NamedDisks, F: Files, O: Write, E: Write>(
     alloc: Global,
     disks: &N,

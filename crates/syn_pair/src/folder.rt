@@ -1,5 +1,6 @@
 //! The folder that marks are of.
-ghost use Rattle.std.specs.Prelude.{◌≡◌, ◌++◌, ◌↔◌, IfErr, IfOk, IfSome, OnOk, Some, option_map, true};
+ghost use Rattle.std.specs.Prelude.{◌≡◌, ◌++◌, ◌↔◌, IfErr, IfOk, IfSome, OnOk, Some, true};
+ghost use Rattle.std.specs.Prelude.{option_map};
 ghost use Rattle.syn_pair.specs.Folders.{AreOfFolder, AreNotOfFolder, stamp_of, stamp_spelling};
 ghost use Rattle.syn_model.specs.Refusal.{WrongPair};
 ghost use Rattle.syn_refusal.specs.Refusals.{cause_of};

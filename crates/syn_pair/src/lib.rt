@@ -27,8 +27,8 @@
 //!   they are of (`of`: `AreOf`): its history goes on from what is known of it, and no older copy
 //!   of it was found before. A refusal has its cause (`not_of`: `AreNotOf`). `encode` and `decode`
 //!   are its bytes (`marked_spelling`).
-//! - `FolderStamp::check` allows marks to be used with no folder but their own, in step with them or
-//!   one ahead (`of`: `AreOfFolder`). A refusal has its cause (`not_of`: `AreNotOfFolder`).
+//! - `FolderStamp::check` allows marks to be used with no folder but their own, in step with them
+//!   or one ahead (`of`: `AreOfFolder`). A refusal has its cause (`not_of`: `AreNotOfFolder`).
 //! - `KnownSides::entry_for` gives the entry of the identity, whichever side it was then
 //!   (`IsEntryFor`).
 #![tactic(auto)]

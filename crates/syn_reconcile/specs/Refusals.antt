@@ -6,8 +6,8 @@ use Rattle.syn_refusal.specs.Refusals.{cause_of}
 use Rattle.syn_replica.specs.ErrorRefusals.{refusal_of as of_replica}
 use Rattle.syn_reconcile.specs.declared.error.ReconcileError.{ReconcileError}
 use Rattle.syn_reconcile.specs.declared.error.ReconcileError.TheVariants.{Empty, TooMany, OtherPair}
-use Rattle.syn_reconcile.specs.declared.error.ReconcileError.TheVariants.{Unplanned, Unready, Replica}
-use Rattle.syn_reconcile.specs.declared.error.ReconcileError.TheVariants.{Archive, Memory}
+use Rattle.syn_reconcile.specs.declared.error.ReconcileError.TheVariants.{Unplanned, Unready}
+use Rattle.syn_reconcile.specs.declared.error.ReconcileError.TheVariants.{Archive, Memory, Replica}
 
 abbrev pub refusal_of : ReconcileError → Refusal
 refusal_of (Empty side) = why.Absent

@@ -58,9 +58,9 @@ struct SharedSide<'a, H, R: Disk> {
 /// What the replica had in that first hold is put into the folder. It answers what came of each
 /// item. Before the first one `before` begins.
 ///
-/// Refused as `plan` is, and as `before` is, before anything is changed, 9 and 10 where the replica's device fails, and
-/// as the archive refuses a record: what was carried out before stands then, and the same call goes
-/// on.
+/// Refused as `plan` is, and as `before` is, before anything is changed, 9 and 10 where the
+/// replica's device fails, and as the archive refuses a record: what was carried out before stands
+/// then, and the same call goes on.
 pub fn reconcile_shared<H: Wait, F: EditedFolder, R: Disk, A: Disk, B: BeforeItems>(
     rt: &H,
     alloc: Global,
