@@ -1,9 +1,10 @@
 """How many wrong bodies and quotations there are at least: a lost one counts as a failure.
 
 checks/texts looks at the wrong bodies, by the folders that they stand in, and checks/promise at the
-quotations. Whoever adds some raises the number, and nobody lowers one.
+quotations of PROMISE.md and CLAUSES.md together. Whoever adds some raises the number, and nobody
+lowers one.
 """
-LEAST = {"must-fail": 17, "wrong-bodies": 114, "more-wrong-bodies": 160, "quotations": 97}
+LEAST = {"must-fail": 17, "wrong-bodies": 114, "more-wrong-bodies": 160, "quotations": 103}
 
 
 def lack(kind, count):

@@ -1,4 +1,4 @@
-"""The clauses and definitions that docs/PROMISE.md quotes, taken from their files."""
+"""The clauses and definitions that docs/PROMISE.md and CLAUSES.md quote, from their files."""
 import re
 import textwrap
 
@@ -79,15 +79,29 @@ def quoted(place, top):
     return "\n".join(textwrap.dedent(text) for text in found)
 
 
+def block(place, page, top):
+    """The quotation of the place, as a block of the page."""
+    try:
+        return f"```\n{place}\n{quoted(place, top)}\n```"
+    except (Missing, OSError, ValueError) as why:
+        raise SystemExit(f"{page}: {place} is not there: {why}") from why
+
+
 def filled(page, top):
     """The page with the text of each quotation after the line that names its place, and how many
     there are."""
 
-    def block(match):
-        place = match[1].split("\n", 1)[0].strip()
-        try:
-            return f"```\n{place}\n{quoted(place, top)}\n```"
-        except (Missing, OSError, ValueError) as why:
-            raise SystemExit(f"docs/PROMISE.md: {place} is not there: {why}") from why
+    def anew(match):
+        return block(match[1].split("\n", 1)[0].strip(), page, top)
 
-    return re.subn(r"^```\n(crates/.*?)^```$", block, page, flags=re.S | re.M)
+    return re.subn(r"^```\n(crates/.*?)^```$", anew, (top / page).read_text(), flags=re.S | re.M)
+
+
+def made(words, top):
+    """The page that is made of these words, and how many quotations it has: each line that begins
+    with crates/ names the place of one."""
+
+    def anew(match):
+        return block(match[0].strip(), words, top)
+
+    return re.subn(r"^crates/.*$", anew, (top / words).read_text(), flags=re.M)
