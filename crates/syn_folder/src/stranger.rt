@@ -23,7 +23,7 @@ pub enum Strangeness {
     Count,
     /// It is the folder itself, and takes more bytes in all than a replica has.
     Room,
-    /// It is a directory on another file system than the folder itself, as one in which something is
+    /// It is a directory on another file system than the folder, as one in which something is
     /// mounted.
     Elsewhere,
     /// It has a name `.syn` in its path, which a folder keeps for what belongs to `syn` itself.
