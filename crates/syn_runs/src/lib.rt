@@ -28,6 +28,14 @@
 //! `session_laws` says what a complete session leaves, reports, counts and marks. What it leaves on
 //! the two sides (`synchronized`) has one premise: no two files that the session found at one path,
 //! one on each side, have one digest and different bytes. No other sentence has a premise.
+//!
+//! # What machines over a network do
+//!
+//! A server and a coordinator know of no world. What each does is a trace of its own: the holds of
+//! a side (`HoldsAll`) and the acts of the coordinator (`ActsAll`). `merge_laws` says that what is
+//! merged of three such traces is a run (`IsMerged`, `IsRunOf`), with the same journals, events,
+//! refusals, reports and plans, and the same steps. So all that is promised of runs is promised of
+//! it. `specs/Merged.antt` says which order the merge has to be in.
 #![tactic(auto)]
 
 ghost use Rattle.syn_runs.specs.Laws.{ServesAllowed, PiecesAreUntouched, RepeatsAreDone};
@@ -42,6 +50,7 @@ ghost use Rattle.syn_runs.specs.Headline.{PreferenceLeavesOne, CountsItsItems, C
 ghost use Rattle.syn_runs.specs.Headline.{HeldIsMarked};
 ghost use Rattle.syn_runs.specs.Reported.{AnswersBelong, EachReportTells};
 ghost use Rattle.syn_runs.specs.Delivered.{RepeatsAreAnswered, TakesExpected};
+ghost use Rattle.syn_runs.specs.Merged.{MergesAreRuns};
 
 /// A step of a side leaves its history or adds one allowed event, and is the one that its staged
 /// bytes spell. It answers a fetch only where nothing touched the path since its position, and a
@@ -86,4 +95,11 @@ pub fn session_laws()
     ensures counts { OfEachRun CountsItsItems }
     ensures marked { OfEachRun CarriedIsMarked }
     ensures held { OfEachRun HeldIsMarked }
+{}
+
+/// What two sides that are served over connections and one coordinator did, each by itself, is a
+/// run, where it is merged into one list so that each request which changes a side, and each reply
+/// that is taken, had been sent. So what the other laws say of runs holds of it.
+pub fn merge_laws()
+    ensures merged { MergesAreRuns }
 {}
