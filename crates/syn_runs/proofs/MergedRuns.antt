@@ -28,12 +28,14 @@ use Rattle.syn_runs.specs.World.{World, Machine, At, Coordinator, Step, Edits, S
 use Rattle.syn_runs.specs.World.{Runs, Steps, side_of, coordinator_goes, refuses_with}
 use Rattle.syn_runs.specs.World.{side_does, coordinator_does, MachineDoes, Delivers}
 use Rattle.syn_runs.specs.World.{to_coordinator, ticks}
-use Rattle.syn_runs.specs.Runs.{IsStart}
+use Rattle.syn_runs.specs.Acknowledged.{Stores}
+use Rattle.syn_runs.specs.Runs.{IsStart, OfEachRun}
+use Rattle.syn_runs.specs.Picture.{Picture}
 use Rattle.syn_runs.specs.Merged.{Moment, OnSide, OnCoordinator, holds_of, acts_of, messages_in}
 use Rattle.syn_runs.specs.Merged.{messages_of, said_by, Connections, WasSent, WasWritten, MayCome}
 use Rattle.syn_runs.specs.Merged.{AreInOrder, server_of, Told, nothing_told, told_after}
 use Rattle.syn_runs.specs.Merged.{told_in, step_by, act_steps, steps_in, is_delivery}
-use Rattle.syn_runs.specs.Merged.{MergesAreRuns}
+use Rattle.syn_runs.specs.Merged.{MergesAreRuns, OfEachMerge}
 use Rattle.syn_runs.proofs.SameSteps.{machine_with}
 use Rattle.syn_runs.proofs.ServerSteps.{Leaves, does_so, edits_so, leaves, stays}
 use Rattle.syn_runs.proofs.ShownServers.{Shows, last_of, shows_after, shows_closed}
@@ -730,3 +732,9 @@ merges_run connections old merged left right coordinator m =
           ⊎ (session < last_session journal.value)) (sym (ends.after.journal_is from))
           (ends.after.written from session number reply was);
     }
+
+-- so what holds of runs holds of merges
+pub of_each_merge : (Holds : Stores → Picture → Type 0) → OfEachRun Holds → OfEachMerge Holds
+of_each_merge Holds each connections old merged left right coordinator m =
+    let run = merges_run connections old merged left right coordinator m in
+    (run, each old run.new run.steps m.opened run.runs)

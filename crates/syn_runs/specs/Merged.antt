@@ -20,10 +20,11 @@ use Rattle.syn_machine.specs.Planning.{Log}
 use Rattle.syn_machine.specs.Report.{Report}
 use Rattle.syn_machine.specs.Coordinator.{CoordinatorMachine}
 use Rattle.syn_machine.specs.Acts.{Act, Starting, Taking, Ticking, Calling, Done, ActsAll}
-use Rattle.syn_runs.specs.Acknowledged.{Ack, Happened, Kept_by}
+use Rattle.syn_runs.specs.Acknowledged.{Ack, Happened, Kept_by, Stores}
 use Rattle.syn_runs.specs.World.{World, Machine, At, Coordinator, Step, Edits, Start, Deliver, Tick}
 use Rattle.syn_runs.specs.World.{Checkpoint, Fail, Stop, Open, Reopen, Runs, says, side_of}
-use Rattle.syn_runs.specs.Runs.{IsStart}
+use Rattle.syn_runs.specs.Picture.{Picture}
+use Rattle.syn_runs.specs.Runs.{IsStart, picture_of, stores_of}
 
 -- The merged list
 
@@ -222,3 +223,11 @@ MergesAreRuns = (connections : Connections) (old : World) (merged : List Moment)
     (left right : Server) (coordinator : CoordinatorMachine) →
     IsMerged connections old merged left right coordinator →
     IsRunOf connections old merged left right coordinator
+
+-- What holds of every such merge, of the picture of its run
+abbrev pub OfEachMerge : (Stores → Picture → Type 0) → Type 0
+OfEachMerge Holds = (connections : Connections) (old : World) (merged : List Moment)
+    (left right : Server) (coordinator : CoordinatorMachine) →
+    IsMerged connections old merged left right coordinator →
+    (run : IsRunOf connections old merged left right coordinator)
+    × Holds (stores_of old) (picture_of run.new)
