@@ -136,7 +136,8 @@ free_for x y spot (inl free) at = absurd (let k : Free ≡ Has y = sym free ∙ 
 free_for x y spot (inr has) at = sym has ∙ at
 
 pub returned_loses : (x : ℕ) (a b : Moment) → Does (Returned x) a b → LosesNothing a b
-returned_loses x a b d y (inl at) = inl (ap (λ (m : Moment). m.spot) d.2 ∙ free_for x y a.spot d.1 at)
+returned_loses x a b d y (inl at) =
+    inl (ap (λ (m : Moment). m.spot) d.2 ∙ free_for x y a.spot d.1 at)
 returned_loses x a b d y (inr at) =
     inl (ap (λ (m : Moment). m.spot) d.2 ∙ let k : Some x ≡ Some y = sym d.0 ∙ at in cc)
 
@@ -151,7 +152,8 @@ named_safe w done x a b s d over = subst (IsSafe w (Named x ∷ done)) (sym d.2)
 })
 
 pub named_loses : (x : ℕ) (a b : Moment) → Does (Named x) a b → LosesNothing a b
-named_loses x a b d y (inl at) = inl (ap (λ (m : Moment). m.spot) d.2 ∙ free_for x y a.spot d.1 at)
+named_loses x a b d y (inl at) =
+    inl (ap (λ (m : Moment). m.spot) d.2 ∙ free_for x y a.spot d.1 at)
 named_loses x a b d y (inr at) = inr (ap (λ (m : Moment). m.kept) d.2 ∙ at)
 
 -- what is over stays so where the note goes, or should have gone

@@ -86,8 +86,8 @@ pub data Course (is_wanted : Bool) (earlier : List Act) (old : Moment) : List Ac
         IsSafe is_wanted (act ∷ done) after → Edits after new →
         Course is_wanted earlier old (act ∷ done) new
 
--- What an answer tells. Where it succeeds all is made, and no note stands. Where it is refused since
--- the folder changed, nothing was put at the path, and what was taken away was put back, or
+-- What an answer tells. Where it succeeds all is made, and no note stands. Where it is refused
+-- since the folder changed, nothing was put at the path, and what was taken away was put back, or
 -- something else was at the path by then; no note stands.
 abbrev pub Tells : Bool → Result Unit FolderError → List Act → Moment → Type 0
 Tells is_wanted (Ok _) done new = IsMade is_wanted done × (new.noted ≡ false)

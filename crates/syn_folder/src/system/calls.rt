@@ -68,6 +68,7 @@ pub(super) trait PlaceCalls {
         ensures stage { stage self.new ≡ after_prepare (stage self.old) result }
         ensures folder { Prepares (is_wanted self.old) (stage self.old) result (moment self.old)
             (moment self.new) }
+        ensures asked { (tree self.new ≡ tree self.old) × (path self.new ≡ path self.old) }
         ensures wanted { is_wanted self.new ≡ is_wanted self.old };
 
     /// Moves what stands at the path into `.syn/kept` by one rename; false where nothing is there.
@@ -77,6 +78,7 @@ pub(super) trait PlaceCalls {
         requires { stage self.old ≡ Noted }
         ensures stage { stage self.new ≡ after_take (stage self.old) result }
         ensures folder { Takes result (moment self.old) (moment self.new) }
+        ensures asked { (tree self.new ≡ tree self.old) × (path self.new ≡ path self.old) }
         ensures wanted { is_wanted self.new ≡ is_wanted self.old };
 
     /// Looks at what was moved, and reads it. Answers whether it is what was read at the path.
@@ -88,6 +90,7 @@ pub(super) trait PlaceCalls {
         ensures read { result ≡ Ok true → IsAsRead (tree self.new) (path self.new) (seen self.new) }
         ensures stage { stage self.new ≡ after_compare (stage self.old) result }
         ensures folder { Compares result (moment self.old) (moment self.new) }
+        ensures asked { (tree self.new ≡ tree self.old) × (path self.new ≡ path self.old) }
         ensures wanted { is_wanted self.new ≡ is_wanted self.old };
 
     /// Puts what is wanted at the path; false where something stands there, or the directory that
@@ -98,6 +101,8 @@ pub(super) trait PlaceCalls {
         requires { MayPlace (is_wanted self.old) (stage self.old) }
         ensures stage { stage self.new ≡ after_place (stage self.old) result }
         ensures folder { Places result (moment self.old) (moment self.new) }
+        ensures asked { (tree self.new ≡ tree self.old) × (path self.new ≡ path self.old) }
+        ensures seen { seen self.new ≡ seen self.old }
         ensures wanted { is_wanted self.new ≡ is_wanted self.old };
 
     /// Puts what was moved back to the path; false where something stands there, or the directory
@@ -118,6 +123,8 @@ pub(super) trait PlaceCalls {
         requires { MayClose (is_wanted self.old) (stage self.old) }
         ensures stage { stage self.new ≡ after_close (stage self.old) result }
         ensures folder { Closes result (moment self.old) (moment self.new) }
+        ensures asked { (tree self.new ≡ tree self.old) × (path self.new ≡ path self.old) }
+        ensures seen { seen self.new ≡ seen self.old }
         ensures wanted { is_wanted self.new ≡ is_wanted self.old };
 
     /// The same where what was moved stays in `.syn/kept`, since something else stands at the path.

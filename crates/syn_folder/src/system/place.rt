@@ -27,11 +27,11 @@ use syn_tree::{Found, Node};
 
 /// A path of a folder of the system, at which something is replaced.
 ///
-/// No contract can say what the system's calls do to a folder. It is taken as given that they do what
-/// is said of them (`PlaceCalls`), and that `.syn` has of the path what is in memory: that a rename
-/// moves what has the name, and that a link is refused where something has the name. Each directory
-/// above the path is opened one by one from the folder's own, which is open, and no symbolic link is
-/// followed.
+/// No contract can say what the system's calls do to a folder. It is taken as given that they do
+/// what is said of them (`PlaceCalls`), and that `.syn` has of the path what is in memory: that a
+/// rename moves what has the name, and that a link is refused where something has the name. Each
+/// directory above the path is opened one by one from the folder's own, which is open, and no
+/// symbolic link is followed.
 #[derive(Drop)]
 pub(super) struct SystemPlace<'a, F> {
     files: &'a F,

@@ -5,6 +5,7 @@ ghost use Rattle.std.specs.Prelude.{OnOk};
 ghost use Rattle.syn_folder.specs.Courses.{Answers, IsAtRest, IsMade, IsReadyToPut, IsSafe};
 ghost use Rattle.syn_folder.specs.Courses.{IsShown, Mends, known, out, put};
 ghost use Rattle.syn_folder.specs.Moments.{Act};
+ghost use Rattle.syn_folder.specs.Places.{IsAsRead};
 ghost use Rattle.syn_folder.specs.Stages.{IsCutOff, IsRefusedAt, IsSettled, IsUntouched};
 ghost use Rattle.syn_folder.specs.Stages.{IsReady, MayReturn};
 ghost use Rattle.syn_folder.specs.declared.system.stage.Stage.TheVariants.{Done, Kept, Moved};
@@ -33,6 +34,8 @@ pub(super) fn replace<C: PlaceCalls>(alloc: Global, calls: &mut C) -> Result<(),
     ensures folder { Answers (C.is_wanted calls.old) [] (C.moment calls.old)
         (C.moment calls.new) result }
     ensures kept { C.stage calls.old ≡ Standing → OnOk result (IsSome (C.moment calls.new).kept) }
+    ensures read { C.stage calls.old ≡ Standing → OnOk result
+        (IsAsRead (C.tree calls.old) (C.path calls.old) (C.seen calls.new)) }
 {
     match calls.looks_as_read(alloc) {
         Ok(true) => {}
@@ -82,6 +85,7 @@ fn put_over<C: PlaceCalls>(alloc: Global, calls: &mut C) -> Result<(), FolderErr
         → Answers (C.is_wanted calls.old) earlier (C.moment calls.old)
         (C.moment calls.new) result }
     ensures kept { OnOk result (IsSome (C.moment calls.new).kept) }
+    ensures read { OnOk result (IsAsRead (C.tree calls.old) (C.path calls.old) (C.seen calls.new)) }
 {
     match calls.take(alloc) {
         Ok(true) => {}
@@ -108,6 +112,7 @@ fn put_in_place<C: PlaceCalls>(alloc: Global, calls: &mut C) -> Result<(), Folde
         → Answers (C.is_wanted calls.old) earlier (C.moment calls.old)
         (C.moment calls.new) result }
     ensures kept { OnOk result (IsSome (C.moment calls.new).kept) }
+    ensures seen { OnOk result (C.seen calls.new ≡ C.seen calls.old) }
 {
     if !calls.is_wanted() {
         return end(alloc, calls);
@@ -183,6 +188,7 @@ fn end<C: PlaceCalls>(alloc: Global, calls: &mut C) -> Result<(), FolderError>
         → Answers (C.is_wanted calls.old) earlier (C.moment calls.old)
         (C.moment calls.new) result }
     ensures kept { (C.moment calls.new).kept ≡ (C.moment calls.old).kept }
+    ensures seen { C.seen calls.new ≡ C.seen calls.old }
 {
     match calls.close(alloc) {
         Ok(()) => Ok(()),

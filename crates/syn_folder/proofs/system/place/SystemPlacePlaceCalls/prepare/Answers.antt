@@ -1,4 +1,5 @@
-use Rattle.syn_folder.proofs.PicturedLemmas.{prepares_err, prepares_new, prepares_noted, prepares_tried}
+use Rattle.syn_folder.proofs.PicturedLemmas.{prepares_err, prepares_new, prepares_noted}
+use Rattle.syn_folder.proofs.PicturedLemmas.{prepares_tried}
 use Rattle.syn_folder.proofs.system.place.SystemPlacePlaceCalls.prepare.Goals as goal
 
 pub returns-in_err-write_item-clause-folder : goal.returns-in_err-write_item-clause-folder
