@@ -6,3 +6,4 @@ mod WalkLemmas
 mod CourseLemmas
 mod AnswerLemmas
 mod PicturedLemmas
+mod StopLemmas

@@ -6,6 +6,7 @@ use Rattle.syn_folder.specs.Moments.{Moment, Edits, Act, Does}
 use Rattle.syn_folder.specs.Moments.{Wrote, Took, Knew, Put, Met, Returned, Ended, Broke, Has}
 use Rattle.syn_folder.specs.declared.error.FolderError.{FolderError}
 use Rattle.syn_folder.specs.declared.error.FolderError.TheVariants as why
+use Rattle.syn_folder.specs.Stages.{IsCutOff}
 use Rattle.syn_folder.specs.declared.system.stage.Stage.{Stage}
 use Rattle.syn_folder.specs.declared.system.stage.Stage.TheVariants.{Noted, Moved, Placed}
 
@@ -130,3 +131,34 @@ pub record Mends (is_wanted : Bool) (earlier : List Act) (old new : Moment)
   pub course : Course is_wanted earlier old done new
   pub safe : IsSafe is_wanted done new
   pub over : OnOk result (IsOver is_wanted done × (new.noted ≡ false))
+
+-- the act is one of those
+abbrev pub IsAmong : Act → List Act → Type 0
+IsAmong act [] = ⊥
+IsAmong act (one ∷ done) = (one ≡ act) ⊎ IsAmong act done
+
+-- whatever was taken away lies in `.syn/kept`, or was put back to the path
+abbrev pub KeepsWhatItTook : Type 0
+KeepsWhatItTook = (is_wanted : Bool) (first now : Moment) (done : List Act) (thing : ℕ) →
+    IsAtRest first → Course is_wanted [] first done now → IsAmong (Took thing) done →
+    (now.kept ≡ Some thing) ⊎ IsAmong (Returned thing) done
+
+-- where a note stands, at a stop or later, a start takes the folder for something that it is
+abbrev pub MayBeTakenUp : Type 0
+MayBeTakenUp = (is_wanted : Bool) (first stopped begun : Moment) (done : List Act) →
+    IsAtRest first → Course is_wanted [] first done stopped → Edits stopped begun →
+    begun.noted ≡ true → IsSafe is_wanted done begun
+    × ((stage : Stage) × IsCutOff stage × IsShown is_wanted stage done begun)
+
+-- where none stands, all that was done is over
+abbrev pub IsOverWithoutNote : Type 0
+IsOverWithoutNote = (is_wanted : Bool) (first stopped begun : Moment) (done : List Act) →
+    IsAtRest first → Course is_wanted [] first done stopped → Edits stopped begun →
+    begun.noted ≡ false → IsOver is_wanted done × (begun.kept ≡ out done)
+
+-- a replacement that was cut off and the start after it are one course from the first moment on
+abbrev pub IsMendedByStart : Type 0
+IsMendedByStart = (is_wanted : Bool) (first stopped begun ended : Moment) (done : List Act)
+    (result : Result Unit Error) → Course is_wanted [] first done stopped →
+    Edits stopped begun → Mends is_wanted done begun ended result →
+    Mends is_wanted [] first ended result
