@@ -3,3 +3,7 @@ mod LookLemmas
 mod PictureLemmas
 mod StreamLemmas
 mod WalkLemmas
+mod CourseLemmas
+mod AnswerLemmas
+mod PicturedLemmas
+mod StopLemmas

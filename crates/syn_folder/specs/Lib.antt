@@ -4,3 +4,5 @@ pub mod Strangers
 pub mod Glimpses
 pub mod Stages
 pub mod Places
+pub mod Moments
+pub mod Courses

@@ -21,6 +21,7 @@ mod editing;
 mod exported;
 mod glimpse;
 mod item;
+mod laws;
 mod listing;
 mod looking;
 mod looks;

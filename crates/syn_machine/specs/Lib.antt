@@ -7,3 +7,5 @@ pub mod Planning
 pub mod Report
 pub mod Session
 pub mod Coordinator
+pub mod Server
+pub mod Acts

@@ -40,4 +40,8 @@
 //! - A user's edit, a start, a checkpoint and a reopening are lost on a machine that is down. Else
 //!   each is made, or is refused with the first of its causes, which the world keeps (`Calls`,
 //!   `refusals`). It is 9 where it leaves the machine halted (`refused_by`).
+//! - A **server** is a side with a staging for each connection (`Server`). What it does is a list
+//!   of holds: for a user's edit, for a request that came over a connection, for one that closed,
+//!   or for a call of the machine itself (`Holds`). The coordinator's calls are a list of acts in
+//!   the same way (`Acts`).
 #![tactic(auto)]

@@ -66,3 +66,11 @@ pub mod CarriedLemmas
 pub mod FetchedLemmas
 mod RecoveredLemmas
 pub mod FaultLemmas
+pub mod OtherStaging
+pub mod SameSteps
+pub mod ShownServers
+pub mod ServerSteps
+pub mod BegunSessions
+pub mod MergedSides
+pub mod MergedRequests
+pub mod MergedRuns

@@ -6,3 +6,4 @@ pub mod Runs
 pub mod Reported
 pub mod Delivered
 pub mod Laws
+pub mod Merged

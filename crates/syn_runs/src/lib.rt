@@ -28,6 +28,14 @@
 //! `session_laws` says what a complete session leaves, reports, counts and marks. What it leaves on
 //! the two sides (`synchronized`) has one premise: no two files that the session found at one path,
 //! one on each side, have one digest and different bytes. No other sentence has a premise.
+//!
+//! # What machines over a network do
+//!
+//! A server and a coordinator know of no world. What each does is a trace of its own: the holds of
+//! a side (`HoldsAll`) and the acts of the coordinator (`ActsAll`). `merge_laws` says that what is
+//! merged of three such traces is a run (`IsMerged`, `IsRunOf`), with the same journals, events,
+//! refusals, reports and plans, and the same steps. So all that is promised of runs is promised of
+//! it. `specs/Merged.antt` says which order the merge has to be in.
 #![tactic(auto)]
 
 ghost use Rattle.syn_runs.specs.Laws.{ServesAllowed, PiecesAreUntouched, RepeatsAreDone};
@@ -39,9 +47,10 @@ ghost use Rattle.syn_runs.specs.Headline.{RecoveredIsLegal, EachEntryWasHeld, Le
 ghost use Rattle.syn_runs.specs.Headline.{LogsPlans, Owes, CompleteSessionsSynchronize};
 ghost use Rattle.syn_runs.specs.Headline.{CompleteSessionsReconcile, ReportsItsConflicts};
 ghost use Rattle.syn_runs.specs.Headline.{PreferenceLeavesOne, CountsItsItems, CarriedIsMarked};
-ghost use Rattle.syn_runs.specs.Headline.{HeldIsMarked};
+ghost use Rattle.syn_runs.specs.Headline.{HeldIsMarked, StandsFor};
 ghost use Rattle.syn_runs.specs.Reported.{AnswersBelong, EachReportTells};
 ghost use Rattle.syn_runs.specs.Delivered.{RepeatsAreAnswered, TakesExpected};
+ghost use Rattle.syn_runs.specs.Merged.{MergesAreRuns, OfEachMerge};
 
 /// A step of a side leaves its history or adds one allowed event, and is the one that its staged
 /// bytes spell. It answers a fetch only where nothing touched the path since its position, and a
@@ -90,4 +99,21 @@ pub fn session_laws()
     ensures counts { OfEachRun CountsItsItems }
     ensures marked { OfEachRun CarriedIsMarked }
     ensures held { OfEachRun HeldIsMarked }
+{}
+
+/// What two sides that are served over connections and one coordinator did, each by itself, is a
+/// run, where it is merged into one list so that each request which changes a side, and each reply
+/// that is taken, had been sent. So what the other laws say of runs holds of it: the machines stand
+/// for what was acknowledged, each replacement is legal, both sides held what the archive has, each
+/// report tells of its session, and a complete session without edits leaves the synchronization of
+/// what it found.
+pub fn merge_laws()
+    ensures merged { MergesAreRuns }
+    ensures stands { OfEachMerge StandsFor }
+    ensures legal { OfEachMerge EachReplacementIsLegal }
+    ensures archive { OfEachMerge EachEntryWasHeld }
+    ensures pair { OfEachMerge LeavesPair }
+    ensures reports { OfEachMerge EachReportTells }
+    ensures synchronized { OfEachMerge CompleteSessionsSynchronize }
+    ensures reconciled { OfEachMerge CompleteSessionsReconcile }
 {}

@@ -2,3 +2,4 @@ pub mod BeginLemmas
 pub mod BodyLemmas
 pub mod OnceLemmas
 pub mod ServeLemmas
+pub mod HoldLemmas

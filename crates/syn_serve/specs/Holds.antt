@@ -4,11 +4,11 @@ use Rattle.std.specs.Option.{option_map}
 use Rattle.syn_agent.specs.Agents.{side_of}
 use Rattle.syn_agent.specs.Answers.{Answers as AnswersOf, IsUnchanged, room_for}
 use Rattle.syn_agent.specs.Causes.{CountsFailures}
-use Rattle.syn_agent.specs.Machines.{IsOf, Takes}
 use Rattle.syn_agent.specs.declared.agent.Agent.{Agent}
 use Rattle.syn_disk.specs.declared.disk.Disk.{Ghosts}
+use Rattle.syn_machine.specs.Server.{Server}
 use Rattle.syn_machine.specs.Side.{Request, Reply, Refused as Refuses, TakesMemory, answer}
-use Rattle.syn_machine.specs.SideMachine.{ServesHalted, SideMachine}
+use Rattle.syn_machine.specs.SideMachine.{ServesHalted}
 use Rattle.syn_history.specs.Status.{identity_of as bytes_of, status_of}
 use Rattle.syn_history.specs.declared.status.Identity.{Identity}
 use Rattle.syn_history.specs.declared.status.ReplicaStatus.{ReplicaStatus}
@@ -26,6 +26,7 @@ use Rattle.syn_replica.specs.declared.error.ReplicaError.TheVariants.{Tree}
 use Rattle.syn_replica.specs.declared.replica.Replica.{Replica}
 use Rattle.syn_serve.specs.Begins.{BeginsOnce, IsBegunElsewhere}
 use Rattle.syn_serve.specs.Messages.{Message, Asks, Wishes, Response, Answers, Tells}
+use Rattle.syn_serve.specs.OverConnections.{HoldsFor, IsServed}
 use Rattle.syn_shared.specs.Edits.{Edits}
 use Rattle.syn_shared.specs.Reads.{Gets, Tells as TellsStatus}
 use Rattle.syn_shared.specs.Shared.{HeldAfterWait, identity_of}
@@ -38,9 +39,10 @@ use Rattle.syn_tree.specs.declared.error.TreeError.TheVariants.{Absent}
 -- session that was begun over the connection last
 pub record AnswersAlone {D : Type 0} {disk : Ghosts D} (begun : Option ℕ) (agent after : Agent)
     (session : ℕ) (request : Request) (reply : Reply) (found left : Replica D disk) : Type 0 where
-  -- it is a step of the world's side
-  pub takes : (pair : ℕ) (machine : SideMachine) → IsOf pair found agent machine
-      → Takes pair found left after machine session request reply
+  -- it is a hold of the server, under whatever number the request came
+  pub holds : (pair connection number : ℕ) (server : Server)
+      → IsServed pair found agent server connection
+      → HoldsFor pair found left agent after server connection session number request reply
   -- for every history that the replica stands for
   pub answers : (history : History) → Stands found history
       → AnswersOf found left agent after history session request reply

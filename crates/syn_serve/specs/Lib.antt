@@ -1,6 +1,7 @@
 pub mod Refusals
 pub mod Messages
 pub mod Begins
+pub mod OverConnections
 pub mod Holds
 pub mod States
 pub mod Exchanges

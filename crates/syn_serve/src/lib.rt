@@ -29,9 +29,10 @@
 //!   maybe after the lock was found taken (`Responds`). The reply has the session and number of its
 //!   request.
 //!   - A session's request is answered as the agent's call of one thread answers it there, and the
-//!     replica is left so (`AnswersAlone`: the clauses of `answer` of `syn_agent`). No begin is
-//!     answered Begun unless this hold added its event, or the connection had it answered so before
-//!     (`once`: `BeginsOnce`).
+//!     replica is left so (`AnswersAlone`: the clauses of `answer` of `syn_agent`). It is a hold of
+//!     the server in the words of `syn_machine` (`holds`: `HoldsFor`), over a connection that has
+//!     what the agent has staged. No begin is answered Begun unless this hold added its event, or
+//!     the connection had it answered so before (`once`: `BeginsOnce`).
 //!   - A user is told what the edit of one thread answers, what stands at the path, or where the
 //!     replica is in its history, with the identity that it is shared under (`Grants`: `Edits`,
 //!     `Gets` and `Tells` of `syn_shared`). What is staged stays.

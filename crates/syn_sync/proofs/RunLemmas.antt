@@ -1,15 +1,24 @@
 -- Acts of a coordinator, one after another, with what is heard and what is written.
 use Rattle.std.proofs.Common.{◌≡◌, ℕ, Bool, true, false, List, [], ◌∷◌, ◌++◌, refl, sym, ap, subst}
-use Rattle.std.proofs.Common.{◌∙◌, ◌⊎◌, ◌≢◌, inl, inr, append-nil, Option}
+use Rattle.std.proofs.Common.{◌∙◌, ◌⊎◌, ◌≢◌, inl, inr, append-nil, Option, None}
 use Rattle.std.proofs.lemmas.Grind.{flat_map-append}
 use Rattle.std.specs.Prelude.{◌&&◌, not}
 use Rattle.syn_disk.specs.Arms.{is_stopped}
 use Rattle.syn_disk.specs.declared.disk.Disk.{Ghosts}
-use Rattle.syn_machine.specs.Coordinator.{Call, CoordinatorMachine}
+use Rattle.syn_machine.specs.Acts.{Act, Acts, ActsAll, Done}
+use Rattle.syn_machine.specs.Acts as acts
+use Rattle.syn_machine.specs.Coordinator.{Call, CoordinatorMachine, CoordinatorStarts}
+use Rattle.syn_machine.specs.Coordinator.{CoordinatorTakes, CoordinatorTicks, coordinator_kind}
+use Rattle.syn_machine.specs.Machine.{Status}
+use Rattle.syn_machine.specs.Machine as status
+use Rattle.syn_machine.specs.MachineSteps.{Checkpoint, Checkpoints, is_done, makes, refused_by}
 use Rattle.syn_machine.specs.Network.{Message, Which}
 use Rattle.syn_message.specs.Replies.{ReplyMessage}
 use Rattle.syn_model.specs.Archive.{Kept}
+use Rattle.syn_model.specs.Refusal.{first_cause}
+use Rattle.syn_coordinator.proofs.RefusedLemmas.{not_down}
 use Rattle.syn_coordinator.specs.Coordinators.{Does, Stands, device_of, goes_down, goes_on}
+use Rattle.syn_coordinator.specs.Coordinators.{archive_of, checkpoint_refusals, refusals_of}
 use Rattle.syn_coordinator.specs.declared.coordinator.Coordinator.{Coordinator}
 use Rattle.syn_sync.proofs.WriteLemmas.{calm_writes, sends_twice, stopped_none, writes_calm}
 use Rattle.syn_sync.proofs.WriteLemmas.{writes_nothing, writes_twice}
@@ -17,14 +26,13 @@ use Rattle.syn_sync.specs.Drivers.{ConnectionStates, Outlets}
 use Rattle.syn_sync.specs.States.{HearsAll, ConnectionState}
 use Rattle.syn_link.specs.Frames.{Bytes}
 use Rattle.syn_sync.specs.Outlets.{Outlet, Writes}
-use Rattle.syn_sync.specs.Runs.{Act, Acts, Begins, Compacts, Done, Down, Drives, Leads, Starts}
-use Rattle.syn_sync.specs.Runs.{Takes, answer_in, answers_in, at_once, with_room}
-use Rattle.syn_sync.specs.Runs.{frame_to, frames_in, frames_of, frames_to, step_of}
+use Rattle.syn_sync.specs.Runs.{Begins, Down, Drives, answer_in, answers_in, at_once, taking}
+use Rattle.syn_sync.specs.Runs.{frame_to, frames_in, frames_of, frames_to, with_room}
 use Rattle.syn_sync.specs.inner.Calling.{Calls, Starting}
 
-leads_twice : (pair : ℕ) (a b c : CoordinatorMachine) (first second : Acts)
-    → Leads pair a first b → Leads pair b second c → Leads pair a (first ++ second) c
-leads_twice pair a b c [] second one two = subst (λ m. Leads pair m second c) one two
+leads_twice : (pair : ℕ) (a b c : CoordinatorMachine) (first second : List Done)
+    → ActsAll pair a first b → ActsAll pair b second c → ActsAll pair a (first ++ second) c
+leads_twice pair a b c [] second one two = subst (λ m. ActsAll pair m second c) one two
 leads_twice pair a b c (done ∷ onward) second (between, step, one) two =
     (between, step, leads_twice pair between b c onward second one two)
 
@@ -34,14 +42,15 @@ hears_twice a b c [] second one two = subst (λ l. HearsAll l second c) one two
 hears_twice a b c (answering ∷ onward) second (between, hears, one) two =
     (between, hears, hears_twice between b c onward second one two)
 
-answers_twice : (side : Which) (first second : Acts)
+answers_twice : (side : Which) (first second : List Done)
     → answers_in side (first ++ second) ≡ answers_in side first ++ answers_in side second
 answers_twice side first second =
     flat_map-append (λ (done : Done). answer_in side done.act) first second
 
-frames_twice : (side : Which) (first second : Acts)
+frames_twice : (side : Which) (first second : List Done)
     → frames_in side (first ++ second) ≡ frames_in side first ++ frames_in side second
-frames_twice side first second = flat_map-append (frames_of side) first second
+frames_twice side first second =
+    flat_map-append (λ (done : Done). frames_of side done.act done.call.messages) first second
 
 messages_twice : (side : Which) (first second : List Message)
     → frames_to side (first ++ second) ≡ frames_to side first ++ frames_to side second
@@ -51,10 +60,25 @@ false_is : (b : Bool) → b ≡ true → b ≡ false → ⊥
 false_is true is not_is = cc
 false_is false is not_is = cc
 
-begins_more : {preference : Option Which} (first second : Acts) → Begins preference first →
+begins_more : {preference : Option Which} (first second : List Done) → Begins preference first →
     Begins preference (first ++ second)
-begins_more first second (at_once call onward) = at_once call (onward ++ second)
-begins_more first second (with_room one two onward) = with_room one two (onward ++ second)
+begins_more first second (at_once call left onward) = at_once call left (onward ++ second)
+begins_more first second (with_room one two between left onward) =
+    with_room one two between left (onward ++ second)
+
+-- each such step of the coordinator's machine is this act, made
+abbrev pub IsActBy : ℕ → CoordinatorMachine → Act → (CoordinatorMachine → Call → Type 0) → Type 0
+IsActBy pair machine act Step = (next : CoordinatorMachine) (call : Call) → Step next call
+    → (left : Status) × Acts pair machine act next call (refused_by left)
+
+pub tick_act : (pair : ℕ) (machine : CoordinatorMachine)
+    → IsActBy pair machine acts.Ticking (CoordinatorTicks machine)
+tick_act pair machine next call step = (status.Up, (step, refl))
+
+abbrev pub TakesReply : ℕ → CoordinatorMachine → Which → ReplyMessage → CoordinatorMachine → Call
+    → Type 0
+TakesReply pair machine from answering =
+    CoordinatorTakes pair machine from answering.session answering.number answering.reply
 
 module _ {D : Type 0} {disk : Ghosts D} where
   -- its machine was stopped
@@ -80,27 +104,35 @@ module _ {D : Type 0} {disk : Ghosts D} where
 
   -- one call that hears nothing
   pub calls_once : (old new : Coordinator D disk) (pair : ℕ) (machine : CoordinatorMachine)
-      (act : Act) (kept : List Kept) (messages sends : List Message)
-      → Does old new pair (step_of pair machine act) kept messages
+      (act : Act) (Step : CoordinatorMachine → Call → Type 0) → IsActBy pair machine act Step
+      → (kept : List Kept) (messages sends : List Message) → Does old new pair Step kept messages
       → ((side : Which) → answer_in side act ≡ [])
       → ((call : Call) (side : Which) → call.messages ≡ messages
-      → frames_of side (record { act = act; call = call }) ≡ frames_to side sends)
+      → frames_of side act call.messages ≡ frames_to side sends)
       → Calls new pair machine sends
-  calls_once old new pair machine act kept messages sends
+  calls_once old new pair machine act Step is_act kept messages sends
       (goes_on reached call step stands is_kept is_sent is_reported) silent frames = record {
-        acts = record { act = act; call = call } ∷ [];
+        acts = record {
+          act = act;
+          call = call;
+          refusals = refused_by (is_act reached call step).0;
+        } ∷ [];
         reached = reached;
-        leads = (reached, step, refl);
+        leads = (reached, (is_act reached call step).1, refl);
         ends = inl stands;
         silent = λ side. append-nil (answer_in side act) ∙ silent side;
-        sends = λ calm side. append-nil (frames_of side (record { act = act; call = call }))
+        sends = λ calm side. append-nil (frames_of side act call.messages)
             ∙ frames call side is_sent;
       }
-  calls_once old new pair machine act kept messages sends
+  calls_once old new pair machine act Step is_act kept messages sends
       (goes_down reached call step stopped down leaves is_kept tries) silent frames = record {
-        acts = record { act = act; call = call } ∷ [];
+        acts = record {
+          act = act;
+          call = call;
+          refusals = refused_by (is_act reached call step).0;
+        } ∷ [];
         reached = reached;
-        leads = (reached, step, refl);
+        leads = (reached, (is_act reached call step).1, refl);
         ends = inr (record { stopped = stopped; down = down; leaves = leaves; tries = tries });
         silent = λ side. append-nil (answer_in side act) ∙ silent side;
         sends = λ calm. absurd (false_is (stops new) stopped calm);
@@ -108,16 +140,17 @@ module _ {D : Type 0} {disk : Ghosts D} where
 
   -- a call that is refused 9, or for another cause and then changes nothing
   pub calls_refused : {E : Type 0} (old new : Coordinator D disk) (pair : ℕ)
-      (machine : CoordinatorMachine) (act : Act) (device e : E) → (e ≡ device) ⊎ (e ≢ device)
-      → (e ≡ device → Does old new pair (step_of pair machine act) [] [])
+      (machine : CoordinatorMachine) (act : Act) (Step : CoordinatorMachine → Call → Type 0)
+      (device e : E) → (e ≡ device → IsActBy pair machine act Step)
+      → (e ≡ device) ⊎ (e ≢ device) → (e ≡ device → Does old new pair Step [] [])
       → (e ≢ device → Stands new pair machine)
       → ((side : Which) → answer_in side act ≡ [])
       → ((call : Call) (side : Which) → call.messages ≡ []
-      → frames_of side (record { act = act; call = call }) ≡ [])
+      → frames_of side act call.messages ≡ [])
       → Calls new pair machine []
-  calls_refused old new pair machine act device e (inl is) does stands silent frames =
-      calls_once old new pair machine act [] [] [] (does is) silent frames
-  calls_refused old new pair machine act device e (inr is) does stands silent frames =
+  calls_refused old new pair machine act Step device e is_act (inl is) does stands silent frames =
+      calls_once old new pair machine act Step (is_act is) [] [] [] (does is) silent frames
+  calls_refused old new pair machine act Step device e is_act (inr is) does stands silent frames =
       calls_none new pair machine (stands is)
 
   -- calls after calls
@@ -248,8 +281,8 @@ module _ {D : Type 0} {disk : Ghosts D} where
   pub drives_take : (old new : Coordinator D disk) (pair : ℕ) (machine : CoordinatorMachine)
       (from : Which) (answering : ReplyMessage) (kept : List Kept) (messages : List Message)
       (states heard later : ConnectionStates) (begin via to : Outlets)
-      → Does old new pair (step_of pair machine (Takes from answering)) kept messages
-      → ((side : Which) → HearsAll (states side) (answer_in side (Takes from answering))
+      → Does old new pair (TakesReply pair machine from answering) kept messages
+      → ((side : Which) → HearsAll (states side) (answer_in side (taking from answering))
       (heard side))
       → ((side : Which) → Writes (begin side) (via side) [] (via side).goes)
       → stops new ≡ false → ((side : Which) → later side ≡ heard side)
@@ -258,14 +291,14 @@ module _ {D : Type 0} {disk : Ghosts D} where
   drives_take old new pair machine from answering kept messages states heard later begin via to
       (goes_on reached call step stands is_kept is_sent is_reported) hears reads calm same writes =
       record {
-        acts = record { act = Takes from answering; call = call } ∷ [];
+        acts = record { act = taking from answering; call = call; refusals = [] } ∷ [];
         reached = reached;
-        leads = (reached, step, refl);
+        leads = (reached, (step, refl), refl);
         ends = inl stands;
         hears = λ side. subst (λ l. HearsAll (states side)
-            (answer_in side (Takes from answering) ++ []) l) (sym (same side))
+            (answer_in side (taking from answering) ++ []) l) (sym (same side))
             (subst (λ all. HearsAll (states side) all (heard side))
-            (sym (append-nil (answer_in side (Takes from answering)))) (hears side));
+            (sym (append-nil (answer_in side (taking from answering)))) (hears side));
         writes = λ side. calm_is new (begin side) (to side) (frames_to side call.messages ++ [])
             calm (subst (λ bytes. Writes (begin side) (to side) bytes (to side).goes)
             (sym (append-nil (frames_to side call.messages)
@@ -280,20 +313,20 @@ module _ {D : Type 0} {disk : Ghosts D} where
   taken_down : (old new : Coordinator D disk) (pair : ℕ) (machine : CoordinatorMachine)
       (from : Which) (answering : ReplyMessage) (call : Call) (reached : CoordinatorMachine)
       (states heard : ConnectionStates) (begin via : Outlets)
-      → step_of pair machine (Takes from answering) reached call
+      → TakesReply pair machine from answering reached call
       → Stands new pair reached ⊎ Down new pair reached
-      → ((side : Which) → HearsAll (states side) (answer_in side (Takes from answering))
+      → ((side : Which) → HearsAll (states side) (answer_in side (taking from answering))
       (heard side))
       → ((side : Which) → Writes (begin side) (via side) [] (via side).goes)
       → stops new ≡ true → Drives new pair machine states heard begin via
   taken_down old new pair machine from answering call reached states heard begin via step ends
       hears reads stopped = record {
-        acts = record { act = Takes from answering; call = call } ∷ [];
+        acts = record { act = taking from answering; call = call; refusals = [] } ∷ [];
         reached = reached;
-        leads = (reached, step, refl);
+        leads = (reached, (step, refl), refl);
         ends = ends;
         hears = λ side. subst (λ all. HearsAll (states side) all (heard side))
-            (sym (append-nil (answer_in side (Takes from answering)))) (hears side);
+            (sym (append-nil (answer_in side (taking from answering)))) (hears side);
         writes = λ side. writes_twice (begin side) (via side) (via side) []
             (frames_to side call.messages ++ []) (not (stops new)) (reads side)
             (stopped_is new (via side) (frames_to side call.messages ++ []) stopped);
@@ -303,8 +336,8 @@ module _ {D : Type 0} {disk : Ghosts D} where
   pub drives_taken : (old new : Coordinator D disk) (pair : ℕ) (machine : CoordinatorMachine)
       (from : Which) (answering : ReplyMessage) (kept : List Kept) (messages : List Message)
       (states heard : ConnectionStates) (begin via : Outlets)
-      → Does old new pair (step_of pair machine (Takes from answering)) kept messages
-      → ((side : Which) → HearsAll (states side) (answer_in side (Takes from answering))
+      → Does old new pair (TakesReply pair machine from answering) kept messages
+      → ((side : Which) → HearsAll (states side) (answer_in side (taking from answering))
       (heard side))
       → ((side : Which) → Writes (begin side) (via side) [] (via side).goes)
       → stops new ≡ true → Drives new pair machine states heard begin via
@@ -320,61 +353,100 @@ module _ {D : Type 0} {disk : Ghosts D} where
 
   -- one call, with its step
   pub calls_one : (old new : Coordinator D disk) (pair : ℕ) (machine : CoordinatorMachine)
-      (act : Act) (kept : List Kept) (messages : List Message)
-      → Does old new pair (step_of pair machine act) kept messages
+      (act : Act) (Step : CoordinatorMachine → Call → Type 0) → IsActBy pair machine act Step
+      → (kept : List Kept) (messages : List Message) → Does old new pair Step kept messages
       → ((side : Which) → answer_in side act ≡ [])
       → ((call : Call) (side : Which) → call.messages ≡ messages
-      → frames_of side (record { act = act; call = call }) ≡ frames_to side messages)
-      → (calls : Calls new pair machine messages) × (call : Call)
-      × (calls.acts ≡ record { act = act; call = call } ∷ [])
-      × step_of pair machine act calls.reached call
+      → frames_of side act call.messages ≡ frames_to side messages)
+      → (calls : Calls new pair machine messages) × (call : Call) × (left : Status)
+      × (calls.acts ≡ record { act = act; call = call; refusals = refused_by left } ∷ [])
+      × Step calls.reached call
   unfolding calls_once
-  calls_one old new pair machine act kept messages
+  calls_one old new pair machine act Step is_act kept messages
       (goes_on reached call step stands is_kept is_sent is_reported) silent frames = (
-        calls_once old new pair machine act kept messages messages
+        calls_once old new pair machine act Step is_act kept messages messages
             (goes_on reached call step stands is_kept is_sent is_reported) silent frames,
         call,
+        (is_act reached call step).0,
         refl,
         step,
       )
-  calls_one old new pair machine act kept messages
+  calls_one old new pair machine act Step is_act kept messages
       (goes_down reached call step stopped down leaves is_kept tries) silent frames = (
-        calls_once old new pair machine act kept messages messages
+        calls_once old new pair machine act Step is_act kept messages messages
             (goes_down reached call step stopped down leaves is_kept tries) silent frames,
         call,
+        (is_act reached call step).0,
         refl,
         step,
       )
 
+  -- a start of a machine that this coordinator is, and a checkpoint, where no cause stands
+  is_not_down : (coordinator : Coordinator D disk) (pair : ℕ) (machine : CoordinatorMachine)
+      → Stands coordinator pair machine → machine.journal.status ≢ status.Down
+  is_not_down coordinator pair machine stands =
+      not_down (archive_of coordinator) machine.journal stands.journal.state
+
+  pub start_act : (coordinator : Coordinator D disk) (pair : ℕ) (machine : CoordinatorMachine)
+      (preference : Option Which) → Stands coordinator pair machine
+      → first_cause (refusals_of pair machine) ≡ None
+      → IsActBy pair machine (acts.Starting preference) (CoordinatorStarts pair preference machine)
+  start_act coordinator pair machine preference stands none next call step = (
+    next.journal.status,
+    is_done next call _ (is_not_down coordinator pair machine stands) (makes next call none step),
+  )
+
+  pub checkpoint_act : (coordinator : Coordinator D disk) (pair : ℕ)
+      (machine : CoordinatorMachine) → Stands coordinator pair machine
+      → first_cause (checkpoint_refusals machine) ≡ None
+      → IsActBy pair machine (acts.Calling Checkpoint)
+      (Checkpoints (coordinator_kind pair) machine)
+  checkpoint_act coordinator pair machine stands none next call step = (
+    next.journal.status,
+    is_done next call _ (is_not_down coordinator pair machine stands) (makes next call none step),
+  )
+
   -- a start begins a session
   pub starts_once : (preference : Option Which) (old new : Coordinator D disk) (pair : ℕ)
-      (machine : CoordinatorMachine)
-      (kept : List Kept) (messages : List Message)
-      → Does old new pair (step_of pair machine (Starts preference)) kept messages
+      (machine : CoordinatorMachine) → Stands old pair machine
+      → first_cause (refusals_of pair machine) ≡ None → (kept : List Kept)
+      (messages : List Message)
+      → Does old new pair (CoordinatorStarts pair preference machine) kept messages
       → Starting preference new pair machine messages
-  starts_once preference old new pair machine kept messages does =
-      let one = calls_one old new pair machine (Starts preference) kept messages does (λ side. refl)
+  starts_once preference old new pair machine stands none kept messages does =
+      let one = calls_one old new pair machine (acts.Starting preference)
+      (CoordinatorStarts pair preference machine)
+      (start_act old pair machine preference stands none) kept messages does (λ side. refl)
       (λ call side is. ap (λ m. frames_to side m) is) in
-      (one.0, subst (Begins preference) (sym one.2) (at_once one.1 []))
+      (one.0, subst (Begins preference) (sym one.3) (at_once one.1 one.2 []))
 
   -- so does one after a checkpoint
   pub starts_after : (preference : Option Which) (old middle new : Coordinator D disk) (pair : ℕ)
       (machine : CoordinatorMachine) (messages : List Message)
-      (made : Calls middle pair machine []) (first : Call)
-      → made.acts ≡ record { act = Compacts; call = first } ∷ [] → stops middle ≡ false
-      → (kept : List Kept) → Does middle new pair (step_of pair made.reached (Starts preference))
-      kept messages
+      (made : Calls middle pair machine []) (first : Call) (between : Status)
+      → made.acts ≡ record {
+        act = acts.Calling Checkpoint;
+        call = first;
+        refusals = refused_by between;
+      } ∷ [] → stops middle ≡ false → Stands middle pair made.reached
+      → first_cause (refusals_of pair made.reached) ≡ None → (kept : List Kept)
+      → Does middle new pair (CoordinatorStarts pair preference made.reached) kept messages
       → Starting preference new pair machine messages
   unfolding calls_twice
-  starts_after preference old middle new pair machine messages made first is_made calm kept does =
-      let one = calls_one middle new pair made.reached (Starts preference) kept messages does
+  starts_after preference old middle new pair machine messages made first between is_made calm
+      stands none kept does =
+      let one = calls_one middle new pair made.reached (acts.Starting preference)
+      (CoordinatorStarts pair preference made.reached)
+      (start_act middle pair made.reached preference stands none) kept messages does
       (λ side. refl)
       (λ call side is. ap (λ m. frames_to side m) is) in (
         calls_twice middle new pair machine [] messages made calm one.0,
         subst (λ a. Begins preference (a ++ one.0.acts)) (sym is_made)
-            (subst (λ b. Begins preference (record { act = Compacts; call = first } ∷ [] ++ b))
-            (sym one.2)
-            (with_room first one.1 [])),
+            (subst (λ b. Begins preference (record {
+              act = acts.Calling Checkpoint;
+              call = first;
+              refusals = refused_by between;
+            } ∷ [] ++ b)) (sym one.3) (with_room first one.1 between one.2 [])),
       )
 
   ends_at : (preference : Option Which) (stopped : Bool) (middle new : Coordinator D disk)

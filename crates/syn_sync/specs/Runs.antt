@@ -4,10 +4,12 @@ use Rattle.std.specs.Prelude.{◌≡◌, ◌⊎◌, ◌&&◌, not, ℕ, true, Li
 use Rattle.std.specs.Prelude.{Option}
 use Rattle.syn_disk.specs.Arms.{is_stopped}
 use Rattle.syn_disk.specs.declared.disk.Disk.{Ghosts}
-use Rattle.syn_machine.specs.Coordinator.{Call, CoordinatorMachine, CoordinatorStarts}
-use Rattle.syn_machine.specs.Coordinator.{CoordinatorTakes, CoordinatorTicks, coordinator_kind}
+use Rattle.syn_machine.specs.Acts.{Act, ActsAll, Done}
+use Rattle.syn_machine.specs.Acts as acts
+use Rattle.syn_machine.specs.Coordinator.{Call, CoordinatorMachine}
+use Rattle.syn_machine.specs.Machine.{Status}
 use Rattle.syn_machine.specs.Machine as status
-use Rattle.syn_machine.specs.MachineSteps.{Checkpoints}
+use Rattle.syn_machine.specs.MachineSteps.{Checkpoint, refused_by}
 use Rattle.syn_machine.specs.Network.{Answers, Asks, Message, Which, is_side}
 use Rattle.syn_link.specs.Frames.{Bytes, frame_of}
 use Rattle.syn_message.specs.Replies.{ReplyMessage}
@@ -20,54 +22,40 @@ use Rattle.syn_sync.specs.Drivers.{ConnectionStates, Outlets}
 use Rattle.syn_sync.specs.States.{HearsAll}
 use Rattle.syn_sync.specs.Outlets.{Writes}
 
--- what a coordinator is called with: a start, which prefers a side or none, a checkpoint, a side's
--- reply, or that time went by
-pub data Act : Type 0 where
-  Starts : (preference : Option Which) → Act
-  Compacts : Act
-  Takes : (from : Which) (answering : ReplyMessage) → Act
-  Ticks : Act
+-- the act that takes a side's reply
+abbrev pub taking : Which → ReplyMessage → Act
+taking from answering = acts.Taking from answering.session answering.number answering.reply
 
--- each with what the call gave
-pub record Done : Type 0 where
-  pub act : Act
-  pub call : Call
-
-abbrev pub Acts : Type 0
-Acts = List Done
-
--- the step of the coordinator's machine
-abbrev pub step_of : ℕ → CoordinatorMachine → Act → CoordinatorMachine → Call → Type 0
-step_of pair machine (Starts preference) = CoordinatorStarts pair preference machine
-step_of pair machine Compacts = Checkpoints (coordinator_kind pair) machine
-step_of pair machine (Takes from answering) =
-    CoordinatorTakes pair machine from answering.session answering.number answering.reply
-step_of pair machine Ticks = CoordinatorTicks machine
-
--- the acts lead from machine to machine
-abbrev pub Leads : ℕ → CoordinatorMachine → Acts → CoordinatorMachine → Type 0
-Leads pair old [] new = new ≡ old
-Leads pair old (done ∷ later) new =
-    (between : CoordinatorMachine) × step_of pair old done.act between done.call
-    × Leads pair between later new
-
--- they begin with a start that prefers this, or with a checkpoint and such a start after it
-pub data Begins (preference : Option Which) : Acts → Type 0 where
-  at_once : (call : Call) (later : Acts) →
-      Begins preference (record { act = Starts preference; call = call } ∷ later)
-  with_room : (first second : Call) (later : Acts) →
-      Begins preference (record { act = Compacts; call = first }
-      ∷ record { act = Starts preference; call = second } ∷ later)
+-- They begin with a start that prefers this, or with a checkpoint and such a start after it. Each
+-- was made: it is refused 9 at most, where it left the machine halted
+pub data Begins (preference : Option Which) : List Done → Type 0 where
+  at_once : (call : Call) (left : Status) (later : List Done) →
+      Begins preference (record {
+        act = acts.Starting preference;
+        call = call;
+        refusals = refused_by left;
+      } ∷ later)
+  with_room : (first second : Call) (between left : Status) (later : List Done) →
+      Begins preference (record {
+        act = acts.Calling Checkpoint;
+        call = first;
+        refusals = refused_by between;
+      } ∷ record {
+        act = acts.Starting preference;
+        call = second;
+        refusals = refused_by left;
+      } ∷ later)
 
 -- the replies of a side that the coordinator was given
 abbrev pub answer_in : Which → Act → List ReplyMessage
-answer_in side (Takes from answering) = if is_side side from then answering ∷ [] else []
-answer_in side (Starts preference) = []
-answer_in side Compacts = []
-answer_in side Ticks = []
+answer_in side (acts.Taking from session number reply) = if is_side side from
+    then record { session = session; number = number; reply = reply } ∷ [] else []
+answer_in side (acts.Starting preference) = []
+answer_in side acts.Ticking = []
+answer_in side (acts.Calling call) = []
 
-abbrev pub answers_in : Which → Acts → List ReplyMessage
-answers_in side acts = flat_map (λ done. answer_in side done.act) acts
+abbrev pub answers_in : Which → List Done → List ReplyMessage
+answers_in side all = flat_map (λ done. answer_in side done.act) all
 
 -- the request to a side as its frame
 abbrev pub frame_to : Which → Message → Bytes
@@ -84,16 +72,14 @@ frames_to side messages = flat_map (frame_to side) messages
 
 -- what is to be written to a side: each request that was sent to it, but none again, since a driver
 -- lets time go by only to give up
-abbrev pub frames_of : Which → Done → Bytes
-frames_of side done = elim done.act [
-  | Ticks ↦ []
-  | Starts preference ↦ frames_to side done.call.messages
-  | Compacts ↦ frames_to side done.call.messages
-  | Takes from answering ↦ frames_to side done.call.messages
-]
+abbrev pub frames_of : Which → Act → List Message → Bytes
+frames_of side acts.Ticking messages = []
+frames_of side (acts.Starting preference) messages = frames_to side messages
+frames_of side (acts.Taking from session number reply) messages = frames_to side messages
+frames_of side (acts.Calling call) messages = frames_to side messages
 
-abbrev pub frames_in : Which → Acts → Bytes
-frames_in side acts = flat_map (frames_of side) acts
+abbrev pub frames_in : Which → List Done → Bytes
+frames_in side all = flat_map (λ done. frames_of side done.act done.call.messages) all
 
 module _ {D : Type 0} {disk : Ghosts D} (new : Coordinator D disk) (pair : ℕ) where
   -- the machine went down in the last call
@@ -110,9 +96,9 @@ module _ {D : Type 0} {disk : Ghosts D} (new : Coordinator D disk) (pair : ℕ) 
   pub record Drives (machine : CoordinatorMachine) (states heard : ConnectionStates)
       (from to : Outlets)
       : Type 0 where
-    pub acts : Acts
+    pub acts : List Done
     pub reached : CoordinatorMachine
-    pub leads : Leads pair machine acts reached
+    pub leads : ActsAll pair machine acts reached
     pub ends : Stands new pair reached ⊎ Down reached
     pub hears : (side : Which) → HearsAll (states side) (answers_in side acts) (heard side)
     pub writes : (side : Which) → Writes (from side) (to side) (frames_in side acts)

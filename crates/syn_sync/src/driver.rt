@@ -2,7 +2,7 @@
 ghost use Rattle.std.specs.Prelude.{◌≡◌, [], ℕ, true, false, IfErr, IfSome, MatchResult, OnOk};
 ghost use Rattle.std.specs.Prelude.{Some, option_map};
 ghost use Rattle.syn_disk.specs.Arms.{is_stopped};
-ghost use Rattle.syn_machine.specs.Coordinator.{CoordinatorMachine};
+ghost use Rattle.syn_machine.specs.Coordinator.{CoordinatorMachine, CoordinatorTakes};
 ghost use Rattle.syn_machine.specs.Network.{Left, Right, Which};
 ghost use Rattle.syn_message.specs.Replies.{IsLawfulReplyMessage, reply_message_of};
 ghost use Rattle.syn_path.specs.Sides.{which_of};
@@ -15,8 +15,7 @@ ghost use Rattle.syn_sync.specs.Drivers.{ConnectionStates, states_of, connection
 ghost use Rattle.syn_sync.specs.States.{HearsAll};
 ghost use Rattle.syn_sync.specs.Outlets.{Writes};
 ghost use Rattle.syn_sync.specs.Refusals.{Refuses};
-ghost use Rattle.syn_sync.specs.Runs.{Begins, Drives, Takes, answer_in, frame_to, frames_to};
-ghost use Rattle.syn_sync.specs.Runs.{step_of};
+ghost use Rattle.syn_sync.specs.Runs.{Begins, Drives, answer_in, frame_to, frames_to, taking};
 ghost use Rattle.syn_sync.specs.inner.Calling.{Calls, IsUnended, Starting};
 
 use crate::readiness::Readiness;
@@ -179,7 +178,7 @@ impl<R: Read, W: Write> Driver<R, W> {
     fn receive(&mut self, alloc: Global, from: Side) -> Option<ReplyMessage>
         ensures heard { IfSome result (λ answered. (side : Which)
             → HearsAll (states_of R.remaining self.old side)
-            (answer_in side (Takes (which_of from) (reply_message_of answered)))
+            (answer_in side (taking (which_of from) (reply_message_of answered)))
             (states_of R.remaining self.new side)) }
         ensures lawful { IfSome result
             (λ answered. IsLawfulReplyMessage (reply_message_of answered)) }
@@ -239,7 +238,8 @@ fn hear<D: Disk>(
     requires { IsLawfulReplyMessage (reply_message_of answered) }
     ensures { (pair : ℕ) (machine : CoordinatorMachine) → Stands coordinator.old pair machine
         → Does coordinator.old coordinator.new pair
-        (step_of pair machine (Takes (which_of from) (reply_message_of answered)))
+        (CoordinatorTakes pair machine (which_of from) (reply_message_of answered).session
+        (reply_message_of answered).number (reply_message_of answered).reply)
         (written coordinator.new) (messages_of result.items) }
 {
     let ReplyMessage {

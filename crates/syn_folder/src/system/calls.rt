@@ -1,5 +1,7 @@
 //! What a replacement at one path of a folder asks of the system.
-ghost use Rattle.std.specs.Prelude.{◌≡◌, true, Bool, List, Ok};
+ghost use Rattle.std.specs.Prelude.{◌≡◌, true, Bool, List, Ok, IsSome};
+ghost use Rattle.syn_folder.specs.Moments.{Closes, Compares, Moment, Places, Prepares, Returns};
+ghost use Rattle.syn_folder.specs.Moments.{Takes};
 ghost use Rattle.syn_folder.specs.Places.{IsAsRead};
 ghost use Rattle.syn_folder.specs.Stages.{IsUntouched, MayPlace, MayReturn, MayClose};
 ghost use Rattle.syn_folder.specs.Stages.{after_prepare, after_take, after_compare, after_place};
@@ -37,6 +39,9 @@ pub(super) trait PlaceCalls {
     /// What was seen as what was moved was looked at.
     ghost seen: { Self → List Look };
 
+    /// What is at the path, and in `.syn` for it.
+    ghost moment: { Self → Moment };
+
     /// The path.
     fn path(&self) -> &Path
         ensures { result.now ≡ path self.now };
@@ -61,6 +66,9 @@ pub(super) trait PlaceCalls {
     fn prepare(&mut self, alloc: Global) -> io::Result<()>
         requires { IsUntouched (stage self.old) }
         ensures stage { stage self.new ≡ after_prepare (stage self.old) result }
+        ensures folder { Prepares (is_wanted self.old) (stage self.old) result (moment self.old)
+            (moment self.new) }
+        ensures asked { (tree self.new ≡ tree self.old) × (path self.new ≡ path self.old) }
         ensures wanted { is_wanted self.new ≡ is_wanted self.old };
 
     /// Moves what stands at the path into `.syn/kept` by one rename; false where nothing is there.
@@ -69,15 +77,20 @@ pub(super) trait PlaceCalls {
     fn take(&mut self, alloc: Global) -> io::Result<bool>
         requires { stage self.old ≡ Noted }
         ensures stage { stage self.new ≡ after_take (stage self.old) result }
+        ensures folder { Takes result (moment self.old) (moment self.new) }
+        ensures asked { (tree self.new ≡ tree self.old) × (path self.new ≡ path self.old) }
         ensures wanted { is_wanted self.new ≡ is_wanted self.old };
 
     /// Looks at what was moved, and reads it. Answers whether it is what was read at the path.
     ///
     /// An error where the system refuses it, or memory is refused.
     fn compare(&mut self, alloc: Global) -> io::Result<bool>
-        requires { stage self.old ≡ Moved }
+        requires order { stage self.old ≡ Moved }
+        requires lies { IsSome (moment self.old).kept }
         ensures read { result ≡ Ok true → IsAsRead (tree self.new) (path self.new) (seen self.new) }
         ensures stage { stage self.new ≡ after_compare (stage self.old) result }
+        ensures folder { Compares result (moment self.old) (moment self.new) }
+        ensures asked { (tree self.new ≡ tree self.old) × (path self.new ≡ path self.old) }
         ensures wanted { is_wanted self.new ≡ is_wanted self.old };
 
     /// Puts what is wanted at the path; false where something stands there, or the directory that
@@ -87,6 +100,9 @@ pub(super) trait PlaceCalls {
     fn place(&mut self, alloc: Global) -> io::Result<bool>
         requires { MayPlace (is_wanted self.old) (stage self.old) }
         ensures stage { stage self.new ≡ after_place (stage self.old) result }
+        ensures folder { Places result (moment self.old) (moment self.new) }
+        ensures asked { (tree self.new ≡ tree self.old) × (path self.new ≡ path self.old) }
+        ensures seen { seen self.new ≡ seen self.old }
         ensures wanted { is_wanted self.new ≡ is_wanted self.old };
 
     /// Puts what was moved back to the path; false where something stands there, or the directory
@@ -94,8 +110,10 @@ pub(super) trait PlaceCalls {
     ///
     /// An error where the system refuses it, or memory is refused.
     fn put_back(&mut self, alloc: Global) -> io::Result<bool>
-        requires { MayReturn (stage self.old) }
+        requires order { MayReturn (stage self.old) }
+        requires lies { IsSome (moment self.old).kept }
         ensures stage { stage self.new ≡ after_return (stage self.old) result }
+        ensures folder { Returns result (moment self.old) (moment self.new) }
         ensures wanted { is_wanted self.new ≡ is_wanted self.old };
 
     /// Syncs the directories in which names came or went, and removes the note then.
@@ -104,6 +122,9 @@ pub(super) trait PlaceCalls {
     fn close(&mut self, alloc: Global) -> io::Result<()>
         requires { MayClose (is_wanted self.old) (stage self.old) }
         ensures stage { stage self.new ≡ after_close (stage self.old) result }
+        ensures folder { Closes result (moment self.old) (moment self.new) }
+        ensures asked { (tree self.new ≡ tree self.old) × (path self.new ≡ path self.old) }
+        ensures seen { seen self.new ≡ seen self.old }
         ensures wanted { is_wanted self.new ≡ is_wanted self.old };
 
     /// The same where what was moved stays in `.syn/kept`, since something else stands at the path.
@@ -113,5 +134,6 @@ pub(super) trait PlaceCalls {
     fn leave(&mut self, alloc: Global) -> io::Result<()>
         requires { MayReturn (stage self.old) }
         ensures stage { stage self.new ≡ after_leave (stage self.old) result }
+        ensures folder { Closes result (moment self.old) (moment self.new) }
         ensures wanted { is_wanted self.new ≡ is_wanted self.old };
 }

@@ -1,6 +1,8 @@
 //! A path of a folder of the system, at which something is replaced.
-ghost use Rattle.std.specs.Prelude.{IfOk};
+ghost use Rattle.std.specs.Prelude.{◌≡◌, false, true, IfOk};
+ghost use Rattle.syn_folder.specs.Moments.{pictured};
 ghost use Rattle.syn_folder.specs.Stages.{IsCutOff, IsUntouched};
+ghost use Rattle.syn_folder.specs.declared.system.stage.Stage.TheVariants.{Moved};
 
 use crate::error::FolderError;
 use crate::kept::Kept;
@@ -25,7 +27,8 @@ use syn_tree::{Found, Node};
 
 /// A path of a folder of the system, at which something is replaced.
 ///
-/// It is taken as given that the calls of the system do what is said of them (`PlaceCalls`): that a
+/// No contract can say what the system's calls do to a folder. It is taken as given that they do
+/// what is said of them (`PlaceCalls`), and that `.syn` has of the path what is in memory: that a
 /// rename moves what has the name, and that a link is refused where something has the name. Each
 /// directory above the path is opened one by one from the folder's own, which is open, and no
 /// symbolic link is followed.
@@ -40,6 +43,10 @@ pub(super) struct SystemPlace<'a, F> {
     node: Option<&'a Node>,
     is_wanted: bool,
     stage: Stage,
+    /// What stood at the path lies in `.syn/kept`.
+    is_kept: bool,
+    /// A note of it stands.
+    is_noted: bool,
     /// The directory in `.syn/kept` in which what stood at the path is to lie, under its path.
     number: String,
     /// What was seen as what was moved was looked at.
@@ -59,7 +66,9 @@ impl<'a, F: Files> SystemPlace<'a, F> {
         path: &'a Path,
         node: Option<&'a Node>,
     ) -> io::Result<Self>
-        ensures { IfOk result (λ place. IsUntouched place.stage) }
+        ensures stage { IfOk result (λ place. IsUntouched place.stage) }
+        ensures kept { IfOk result (λ place. place.is_kept ≡ false) }
+        ensures noted { IfOk result (λ place. place.is_noted ≡ false) }
     {
         let is_there = was.tree.get(path).is_some();
         Ok(SystemPlace {
@@ -75,6 +84,8 @@ impl<'a, F: Files> SystemPlace<'a, F> {
             } else {
                 Stage::Vacant
             },
+            is_kept: false,
+            is_noted: false,
             number: String::new(alloc),
             seen: Vec::new(alloc),
             told: None,
@@ -90,7 +101,8 @@ impl<'a, F: Files> SystemPlace<'a, F> {
         was: WasRead<'a>,
         note: &'a Note,
     ) -> io::Result<Self>
-        ensures { IfOk result (λ place. IsCutOff place.stage) }
+        ensures stage { IfOk result (λ place. IsCutOff place.stage) }
+        ensures kept { IfOk result (λ place. place.stage ≡ Moved → place.is_kept ≡ true) }
     {
         let mut place = SystemPlace {
             files,
@@ -101,13 +113,16 @@ impl<'a, F: Files> SystemPlace<'a, F> {
             node: None,
             is_wanted: note.is_wanted,
             stage: Stage::Noted,
+            is_kept: false,
+            is_noted: true,
             number: String::from_str(alloc, note.number.as_str())?,
             seen: Vec::new(alloc),
             told: None,
         };
+        place.is_kept = place.lies_in_kept(alloc)?;
         if place.is_placed(alloc)? {
             place.stage = Stage::Placed;
-        } else if place.lies_in_kept(alloc)? {
+        } else if place.is_kept {
             place.stage = Stage::Moved;
         }
         Ok(place)
@@ -291,14 +306,16 @@ impl<F: Files> SystemPlace<'_, F> {
         Ok(true)
     }
 
-    /// What is wanted stands at the path.
+    /// What is wanted was put at the path: it stands there, or it is gone from `.syn/new`.
     fn is_placed(&self, alloc: Global) -> io::Result<bool> {
         if !self.is_wanted {
             return Ok(false);
         }
-        let (Some(item), Some(dir)) = (self.look_in(alloc, &self.own.new, ITEM)?, self.directory()?)
-        else {
+        let Some(item) = self.look_in(alloc, &self.own.new, ITEM)? else {
             return Ok(true);
+        };
+        let Some(dir) = self.directory()? else {
+            return Ok(false);
         };
         match self.look_in(alloc, &dir, self.name())? {
             Some(there) => Ok(there.is_of_same(&item)),
@@ -328,13 +345,12 @@ impl<F: Files> SystemPlace<'_, F> {
         if let Some(dir) = self.directory()? {
             dir.sync(alloc, self.files)?;
         }
-        let is_noted = !self.number.is_empty();
-        if is_noted {
+        if self.is_noted {
             self.end_room(alloc)?;
         }
         remove_note(alloc, self.files, &self.own.new)?;
         remove_item(alloc, self.files, &self.own.new)?;
-        if is_noted {
+        if self.is_noted {
             // Else a stop could bring the note back, and undo a removal that is recorded.
             self.own.new.sync(alloc, self.files)?;
         }
@@ -343,7 +359,7 @@ impl<F: Files> SystemPlace<'_, F> {
 
     /// What is told of what lies in `.syn/kept`.
     fn kept(&self, alloc: Global, is_apart: bool) -> io::Result<Option<Kept>> {
-        if self.number.is_empty() || !self.lies_in_kept(alloc)? {
+        if !self.is_kept || !self.lies_in_kept(alloc)? {
             return Ok(None);
         }
         let (number, path) = (&self.number, self.path);
@@ -365,6 +381,8 @@ impl<F: Files> PlaceCalls for SystemPlace<'_, F> {
     ghost path = { λ place. place.path.now };
 
     ghost seen = { λ place. place.seen.items };
+
+    ghost moment = { λ place. pictured place.is_kept place.is_wanted place.is_noted };
 
     fn path(&self) -> &Path {
         self.path
@@ -408,6 +426,7 @@ impl<F: Files> PlaceCalls for SystemPlace<'_, F> {
                 return Err(error);
             }
             self.stage = Stage::Noted;
+            self.is_noted = true;
         }
         Ok(())
     }
@@ -416,6 +435,7 @@ impl<F: Files> PlaceCalls for SystemPlace<'_, F> {
         let is_taken = self.try_take(alloc)?;
         if is_taken {
             self.stage = Stage::Moved;
+            self.is_kept = true;
         }
         Ok(is_taken)
     }
@@ -443,6 +463,7 @@ impl<F: Files> PlaceCalls for SystemPlace<'_, F> {
         let is_back = self.try_put_back(alloc)?;
         if is_back {
             self.stage = Stage::Noted;
+            self.is_kept = false;
         }
         Ok(is_back)
     }
@@ -451,6 +472,7 @@ impl<F: Files> PlaceCalls for SystemPlace<'_, F> {
         let told = self.kept(alloc, false)?;
         self.try_close(alloc)?;
         self.told = told;
+        self.is_noted = false;
         self.stage = match self.stage {
             Stage::Noted => Stage::Standing,
             _ => Stage::Done,
@@ -462,6 +484,7 @@ impl<F: Files> PlaceCalls for SystemPlace<'_, F> {
         let told = self.kept(alloc, true)?;
         self.try_close(alloc)?;
         self.told = told;
+        self.is_noted = false;
         self.stage = Stage::Left;
         Ok(())
     }

@@ -1,9 +1,15 @@
 //! Replaces what stands at and below a path of a folder that others edit, where it still is what
 //! was read.
-ghost use Rattle.std.specs.Prelude.{◌≡◌, ◌∷◌, [], IfErr, IfOk, OnOk};
+ghost use Rattle.std.specs.Prelude.{◌≡◌, ◌∷◌, [], None, true, IfErr, IfOk, IsErr, IsSome, List};
+ghost use Rattle.std.specs.Prelude.{OnOk};
+ghost use Rattle.syn_folder.specs.Courses.{Answers, IsAtRest, IsMade, IsReadyToPut, IsSafe};
+ghost use Rattle.syn_folder.specs.Courses.{IsShown, Mends, known, out, put};
+ghost use Rattle.syn_folder.specs.Moments.{Act};
+ghost use Rattle.syn_folder.specs.Places.{IsAsRead};
 ghost use Rattle.syn_folder.specs.Stages.{IsCutOff, IsRefusedAt, IsSettled, IsUntouched};
 ghost use Rattle.syn_folder.specs.Stages.{IsReady, MayReturn};
-ghost use Rattle.syn_folder.specs.declared.system.stage.Stage.TheVariants.{Done, Kept, Noted};
+ghost use Rattle.syn_folder.specs.declared.system.stage.Stage.TheVariants.{Done, Kept, Moved};
+ghost use Rattle.syn_folder.specs.declared.system.stage.Stage.TheVariants.{Noted, Standing};
 ghost use Rattle.syn_folder.specs.declared.system.stage.Stage.TheVariants.{Vacant};
 
 use crate::error::FolderError;
@@ -21,9 +27,15 @@ use syn_path::Path;
 /// `.syn/kept`. Refused 9 where a call of the system fails, and 11 where memory is refused: if a
 /// note stands then, `settle` ends what was begun.
 pub(super) fn replace<C: PlaceCalls>(alloc: Global, calls: &mut C) -> Result<(), FolderError>
-    requires { IsUntouched (C.stage calls.old) }
+    requires order { IsUntouched (C.stage calls.old) }
+    requires rest { IsAtRest (C.moment calls.old) }
     ensures done { OnOk result (C.stage calls.new ≡ Done) }
     ensures refused { IfErr result (λ e. IsRefusedAt e (C.stage calls.new)) }
+    ensures folder { Answers (C.is_wanted calls.old) [] (C.moment calls.old)
+        (C.moment calls.new) result }
+    ensures kept { C.stage calls.old ≡ Standing → OnOk result (IsSome (C.moment calls.new).kept) }
+    ensures read { C.stage calls.old ≡ Standing → OnOk result
+        (IsAsRead (C.tree calls.old) (C.path calls.old) (C.seen calls.new)) }
 {
     match calls.looks_as_read(alloc) {
         Ok(true) => {}
@@ -44,6 +56,12 @@ fn put_new<C: PlaceCalls>(alloc: Global, calls: &mut C) -> Result<(), FolderErro
     requires { C.stage calls.old ≡ Vacant }
     ensures done { OnOk result (C.stage calls.new ≡ Done) }
     ensures refused { IfErr result (λ e. IsRefusedAt e (C.stage calls.new)) }
+    ensures folder { (earlier : List Act)
+        → IsSafe (C.is_wanted calls.old) earlier (C.moment calls.old)
+        → IsReadyToPut (C.is_wanted calls.old) earlier (C.moment calls.old)
+        → known earlier ≡ out earlier → IsAtRest (C.moment calls.old)
+        → Answers (C.is_wanted calls.old) earlier (C.moment calls.old)
+        (C.moment calls.new) result }
 {
     if !calls.is_wanted() {
         return end(alloc, calls);
@@ -60,6 +78,14 @@ fn put_over<C: PlaceCalls>(alloc: Global, calls: &mut C) -> Result<(), FolderErr
     requires { C.stage calls.old ≡ Noted }
     ensures done { OnOk result (C.stage calls.new ≡ Done) }
     ensures refused { IfErr result (λ e. IsRefusedAt e (C.stage calls.new)) }
+    ensures folder { (earlier : List Act)
+        → IsSafe (C.is_wanted calls.old) earlier (C.moment calls.old)
+        → IsReadyToPut (C.is_wanted calls.old) earlier (C.moment calls.old)
+        → (C.moment calls.old).kept ≡ None → (C.moment calls.old).noted ≡ true
+        → Answers (C.is_wanted calls.old) earlier (C.moment calls.old)
+        (C.moment calls.new) result }
+    ensures kept { OnOk result (IsSome (C.moment calls.new).kept) }
+    ensures read { OnOk result (IsAsRead (C.tree calls.old) (C.path calls.old) (C.seen calls.new)) }
 {
     match calls.take(alloc) {
         Ok(true) => {}
@@ -75,9 +101,18 @@ fn put_over<C: PlaceCalls>(alloc: Global, calls: &mut C) -> Result<(), FolderErr
 
 /// Puts what is wanted, if anything is, in the place of what was moved and is what was read.
 fn put_in_place<C: PlaceCalls>(alloc: Global, calls: &mut C) -> Result<(), FolderError>
-    requires { C.stage calls.old ≡ Kept }
+    requires order { C.stage calls.old ≡ Kept }
+    requires lies { IsSome (C.moment calls.old).kept }
     ensures done { OnOk result (C.stage calls.new ≡ Done) }
     ensures refused { IfErr result (λ e. IsRefusedAt e (C.stage calls.new)) }
+    ensures folder { (earlier : List Act)
+        → IsSafe (C.is_wanted calls.old) earlier (C.moment calls.old)
+        → IsReadyToPut (C.is_wanted calls.old) earlier (C.moment calls.old)
+        → known earlier ≡ out earlier → (C.moment calls.old).noted ≡ true
+        → Answers (C.is_wanted calls.old) earlier (C.moment calls.old)
+        (C.moment calls.new) result }
+    ensures kept { OnOk result (IsSome (C.moment calls.new).kept) }
+    ensures seen { OnOk result (C.seen calls.new ≡ C.seen calls.old) }
 {
     if !calls.is_wanted() {
         return end(alloc, calls);
@@ -96,9 +131,16 @@ fn undo<C: PlaceCalls>(
     calls: &mut C,
     why: Option<io::Error>,
 ) -> Result<(), FolderError>
-    requires { MayReturn (C.stage calls.old) }
+    requires order { MayReturn (C.stage calls.old) }
+    requires lies { IsSome (C.moment calls.old).kept }
     ensures done { OnOk result (C.stage calls.new ≡ Done) }
     ensures refused { IfErr result (λ e. IsRefusedAt e (C.stage calls.new)) }
+    ensures refuses { IsErr result }
+    ensures folder { (earlier : List Act)
+        → IsSafe (C.is_wanted calls.old) earlier (C.moment calls.old)
+        → put earlier ≡ None → (C.moment calls.old).noted ≡ true
+        → Answers (C.is_wanted calls.old) earlier (C.moment calls.old)
+        (C.moment calls.new) result }
 {
     match calls.put_back(alloc) {
         Ok(true) => end_refused(alloc, calls, why),
@@ -122,6 +164,12 @@ fn end_refused<C: PlaceCalls>(
     requires { C.stage calls.old ≡ Noted }
     ensures done { OnOk result (C.stage calls.new ≡ Done) }
     ensures refused { IfErr result (λ e. IsRefusedAt e (C.stage calls.new)) }
+    ensures refuses { IsErr result }
+    ensures folder { (earlier : List Act)
+        → IsSafe (C.is_wanted calls.old) earlier (C.moment calls.old)
+        → put earlier ≡ None → (C.moment calls.old).kept ≡ None
+        → Answers (C.is_wanted calls.old) earlier (C.moment calls.old)
+        (C.moment calls.new) result }
 {
     if let Err(error) = calls.close(alloc) {
         return Err(FolderError::System(error));
@@ -134,6 +182,13 @@ fn end<C: PlaceCalls>(alloc: Global, calls: &mut C) -> Result<(), FolderError>
     requires { IsReady (C.is_wanted calls.old) (C.stage calls.old) }
     ensures done { OnOk result (C.stage calls.new ≡ Done) }
     ensures refused { IfErr result (λ e. IsRefusedAt e (C.stage calls.new)) }
+    ensures folder { (earlier : List Act)
+        → IsSafe (C.is_wanted calls.old) earlier (C.moment calls.old)
+        → IsMade (C.is_wanted calls.old) earlier
+        → Answers (C.is_wanted calls.old) earlier (C.moment calls.old)
+        (C.moment calls.new) result }
+    ensures kept { (C.moment calls.new).kept ≡ (C.moment calls.old).kept }
+    ensures seen { C.seen calls.new ≡ C.seen calls.old }
 {
     match calls.close(alloc) {
         Ok(()) => Ok(()),
@@ -146,8 +201,13 @@ fn end<C: PlaceCalls>(alloc: Global, calls: &mut C) -> Result<(), FolderError>
 ///
 /// An error where a call of the system fails, or memory is refused. The note stands then.
 pub(super) fn settle<C: PlaceCalls>(alloc: Global, calls: &mut C) -> io::Result<()>
-    requires { IsCutOff (C.stage calls.old) }
-    ensures { OnOk result (IsSettled (C.stage calls.new)) }
+    requires order { IsCutOff (C.stage calls.old) }
+    requires lies { C.stage calls.old ≡ Moved → IsSome (C.moment calls.old).kept }
+    ensures settled { OnOk result (IsSettled (C.stage calls.new)) }
+    ensures folder { (earlier : List Act)
+        → IsSafe (C.is_wanted calls.old) earlier (C.moment calls.old)
+        → IsShown (C.is_wanted calls.old) (C.stage calls.old) earlier (C.moment calls.old)
+        → Mends (C.is_wanted calls.old) earlier (C.moment calls.old) (C.moment calls.new) result }
 {
     match calls.stage() {
         Stage::Moved => {}

@@ -2,6 +2,7 @@
 use Rattle.std.specs.Prelude.{◌≡◌, ◌⊎◌, ℕ, false, true, List, [], Option}
 use Rattle.syn_disk.specs.Arms.{is_stopped}
 use Rattle.syn_disk.specs.declared.disk.Disk.{Ghosts}
+use Rattle.syn_machine.specs.Acts.{ActsAll, Done}
 use Rattle.syn_machine.specs.Coordinator.{CoordinatorMachine}
 use Rattle.syn_machine.specs.Network.{Message, Which}
 use Rattle.syn_model.specs.Refusal as why
@@ -9,15 +10,15 @@ use Rattle.syn_refusal.specs.Refusals.{cause_of}
 use Rattle.syn_refusal.specs.declared.refusal.Refusal.{Refusal}
 use Rattle.syn_coordinator.specs.Coordinators.{Stands, device_of, runs}
 use Rattle.syn_coordinator.specs.declared.coordinator.Coordinator.{Coordinator}
-use Rattle.syn_sync.specs.Runs.{Acts, Begins, Down, Leads, answers_in, frames_in, frames_to}
+use Rattle.syn_sync.specs.Runs.{Begins, Down, answers_in, frames_in, frames_to}
 
 -- the acts lead to the coordinator's machine, or it went down in the last; none takes a reply, and
 -- these messages are what they sent
 pub record Calls {D : Type 0} {disk : Ghosts D} (new : Coordinator D disk) (pair : ℕ)
     (machine : CoordinatorMachine) (messages : List Message) : Type 0 where
-  pub acts : Acts
+  pub acts : List Done
   pub reached : CoordinatorMachine
-  pub leads : Leads pair machine acts reached
+  pub leads : ActsAll pair machine acts reached
   pub ends : Stands new pair reached ⊎ Down new pair reached
   pub silent : (side : Which) → answers_in side acts ≡ []
   pub sends : is_stopped (disk.arms (device_of new)) ≡ false → (side : Which)

@@ -1,0 +1,34 @@
+use Rattle.std.proofs.Common.{◌≡◌, ◌∷◌, true, false, inr, refl, sym, ◌∙◌}
+use Rattle.syn_folder.specs.Moments.{Met, Put}
+use Rattle.syn_folder.proofs.CourseLemmas.{begun, waited}
+use Rattle.syn_folder.proofs.AnswerLemmas.{goes_made, hindered, met, met_noted, placed, put_met}
+use Rattle.syn_folder.proofs.AnswerLemmas.{put_of, put_written, refused}
+use Rattle.syn_folder.proofs.system.replacing.put_new.Goals as goal
+
+pub returns-then-not-is_wanted-clause-folder : goal.returns-then-not-is_wanted-clause-folder
+returns-then-not-is_wanted-clause-folder g c earlier safe ready is rest =
+    c.end.ensures.folder earlier safe (record {
+      kept = is;
+      placed = λ y. absurd (let k : false ≡ true = c.if-not-is_wanted.ensures ∙ y in cc);
+    })
+
+pub returns-in-Ok-true-clause-folder : goal.returns-in-Ok-true-clause-folder
+returns-in-Ok-true-clause-folder g c earlier safe ready is rest =
+    let h = put_of _ _ _ c.in-Ok-true.field-0-test c.in-Ok-true.ensures.folder in
+    let wrote = put_written _ earlier _ _ h.0 h.1 ready (sym c.if-not-is_wanted.ensures) in
+    let r = placed _ earlier _ earlier _ _ h.0 (begun _ earlier _ safe) h.1 is wrote in
+    goes_made _ earlier _ _ c.place.ensures.wanted (Put h.0 ∷ earlier) _ _ _ r
+    (record { kept = is; placed = λ _. (h.0, wrote, refl) })
+    (λ s made. c.end-in-Ok-true.ensures.folder (Put h.0 ∷ earlier) s made)
+
+pub returns-in-Ok-false-clause-folder : goal.returns-in-Ok-false-clause-folder
+returns-in-Ok-false-clause-folder g c earlier safe ready is rest =
+    let h = put_met _ _ _ c.in-Ok-false.field-0-test c.in-Ok-false.ensures.folder in
+    let r = met _ earlier _ earlier _ _ (begun _ earlier _ safe) h in
+    hindered _ earlier _ (Met ∷ earlier) _ _ r ready.unput (met_noted false _ _ h rest.noted)
+    (inr refl)
+
+pub returns-in-Err-clause-folder : goal.returns-in-Err-clause-folder
+returns-in-Err-clause-folder g c earlier safe ready is rest =
+    refused _ earlier _ earlier _ _
+    (waited _ earlier _ earlier _ _ (begun _ earlier _ safe) c.in-Err.ensures.folder)
