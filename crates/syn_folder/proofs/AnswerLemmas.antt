@@ -12,7 +12,7 @@ use Rattle.syn_folder.specs.declared.system.stage.Stage.TheVariants.{Vacant}
 use Rattle.syn_folder.specs.Moments.{Act, Moment, Edits, Happens, Does}
 use Rattle.syn_folder.specs.Moments.{Tried, Wrote, Began, Took, Knew, Put, Met, Named, Returned}
 use Rattle.syn_folder.specs.Moments.{Ended, Broke, Writes, Prepares, Takes, Compares, Places}
-use Rattle.syn_folder.specs.Moments.{Closes, Returns}
+use Rattle.syn_folder.specs.Moments.{Closes, MayName, Returns}
 use Rattle.syn_folder.specs.Stages.{IsCutOff, IsUntouched, after_prepare}
 use Rattle.syn_folder.specs.Courses.{Answers, IsSafe, IsMade, IsOver, Mends, Tells}
 use Rattle.syn_folder.specs.Courses.{IsReadyToPut, IsAtRest, IsShown, LosesNothing, rests}
@@ -47,7 +47,7 @@ pub put_met : (b : Bool) (m n : Moment) → b ≡ false → Places (Ok b) m n �
 put_met b m n is = subst (λ (r : Bool). Places (Ok r) m n) is
 
 pub returned_of : (b : Bool) (m n : Moment) → b ≡ true → Returns (Ok b) m n
-    → (x : ℕ) × Happens (Returned x) m n
+    → (x : ℕ) × (k : Moment) × MayName x m k × Happens (Returned x) k n
 returned_of b m n is = subst (λ (r : Bool). Returns (Ok r) m n) is
 
 pub returned_met : (b : Bool) (m n : Moment) → b ≡ false → Returns (Ok b) m n → Happens Met m n
@@ -228,12 +228,12 @@ module _ (w : Bool) (earlier : List Act) (old : Moment) where
         tells = tells_any (Ended ∷ done) n unput (h.since.noted ∙ h.does.1) whole e;
       }
 
-  -- a putting back that the system refused may have been half done
-  pub half : (done : List Act) (m n : Moment) → Reached w earlier old done m → m.noted ≡ true
-      → Edits m n ⊎ ((x : ℕ) × Happens (Named x) m n)
-      → (more : List Act) × Reached w earlier old more n
-  half done m n r noted (inl e) = (done, waited w earlier old done m n r e)
-  half done m n r noted (inr h) = (Named h.0 ∷ done, named done m n h.0 r h.1 noted)
+  -- what lies in `.syn/kept` may have both names
+  pub half : (done : List Act) (m n : Moment) (x : ℕ) → Reached w earlier old done m
+      → m.noted ≡ true → MayName x m n
+      → (more : List Act) × Reached w earlier old more n × (put more ≡ put done)
+  half done m n x r noted (inl e) = (done, waited w earlier old done m n r e, refl)
+  half done m n x r noted (inr h) = (Named x ∷ done, named done m n x r h noted, refl)
 
 -- what is wanted is written, and nothing else was done
 pub record Written (w : Bool) (old now : Moment) : Type 0 where

@@ -66,6 +66,10 @@ module _ (k w n : Bool) where
       )
   takes false is = absurd (let e : false ≡ true = is in cc)
 
+  pub returns_err : (r : Result Bool Error) → IsErr r → Returns r known known
+  returns_err (Err e) is = (0, inl (edits_refl known))
+  returns_err (Ok b) is = absurd (let e : false ≡ true = is in cc)
+
   pub returns_met : (b : Bool) → b ≡ false → Returns (Ok b) known known
   returns_met false is = met_then
   returns_met true is = absurd (let e : true ≡ false = is in cc)
@@ -102,6 +106,8 @@ pub returns : (b k w n : Bool) → b ≡ true → IsSome (pictured k w n).kept
 returns true true w n is lies =
     let after : Moment = record (pictured false w n) { spot = Has 0 } in (
       0,
+      pictured true w n,
+      inl (edits_refl (pictured true w n)),
       at_once (Returned 0) (pictured true w n) (pictured true w n) after (pictured false w n)
           (edits_refl (pictured true w n)) (refl, inl refl, refl)
           (same_syn after (pictured false w n) refl refl refl),

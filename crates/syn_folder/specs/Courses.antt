@@ -76,8 +76,8 @@ IsThere thing now = (now.spot ≡ Has thing) ⊎ (now.kept ≡ Some thing)
 abbrev pub LosesNothing : Moment → Moment → Type 0
 LosesNothing old new = (thing : ℕ) → IsThere thing old → IsThere thing new
 
--- From one moment to another this program did what comes before what was done earlier, one after
--- the other, and others edited between any two acts. No act lost anything, and after each it was
+-- From one moment to another this program added acts to those that were done earlier, one after the
+-- other, and others edited between any two of them. No act lost anything, and after each it was
 -- safe to stop.
 pub data Course (is_wanted : Bool) (earlier : List Act) (old : Moment) : List Act → Moment → Type 0
   where
@@ -104,7 +104,7 @@ pub record Answers (is_wanted : Bool) (earlier : List Act) (old new : Moment)
   pub safe : IsSafe is_wanted done new
   pub tells : Tells is_wanted result done new
 
--- nothing was done for the path, or all that was done is over
+-- nothing lies in `.syn/kept` for the path, and no note names it
 pub record IsAtRest (now : Moment) : Type 0 where
   pub kept : now.kept ≡ None
   pub noted : now.noted ≡ false

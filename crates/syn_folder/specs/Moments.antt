@@ -111,10 +111,15 @@ Places (Ok true) old new = (thing : ℕ) × Happens (Put thing) old new
 Places (Ok false) old new = Happens Met old new
 Places (Err _) old new = Edits old new
 
+-- a file has both names for a while, and a directory has not
+abbrev pub MayName : ℕ → Moment → Moment → Type 0
+MayName thing old new = Edits old new ⊎ Happens (Named thing) old new
+
 abbrev pub Returns : Result Bool Error → Moment → Moment → Type 0
-Returns (Ok true) old new = (thing : ℕ) × Happens (Returned thing) old new
+Returns (Ok true) old new = (thing : ℕ) × (named : Moment) × MayName thing old named
+    × Happens (Returned thing) named new
 Returns (Ok false) old new = Happens Met old new
-Returns (Err _) old new = Edits old new ⊎ ((thing : ℕ) × Happens (Named thing) old new)
+Returns (Err _) old new = (thing : ℕ) × MayName thing old new
 
 abbrev pub Closes : Result Unit Error → Moment → Moment → Type 0
 Closes (Ok _) old new = Happens Ended old new

@@ -39,7 +39,7 @@ pub(super) trait PlaceCalls {
     /// What was seen as what was moved was looked at.
     ghost seen: { Self → List Look };
 
-    /// What is at the path, and in `.syn` for it.
+    /// What is at the path, and what `.syn` has for it.
     ghost moment: { Self → Moment };
 
     /// The path.

@@ -14,10 +14,11 @@ returns-in_default-clause-folder g c earlier safe shown =
 
 pub returns-in-Ok-true-clause-folder : goal.returns-in-Ok-true-clause-folder
 returns-in-Ok-true-clause-folder g c earlier safe shown =
+    let noted = shown_noted _ earlier _ _ (sym c.stage.ensures ∙ c.in-Moved.is) shown in
     let h = returned_of _ _ _ c.in-Ok-true.field-0-test c.in-Ok-true.ensures.folder in
-    let r = returned _ earlier _ earlier _ _ h.0 (begun _ earlier _ safe) h.1 in
-    closing _ earlier _ (Returned h.0 ∷ earlier) _ _ _ r (inl refl)
-    c.close-in-Ok-true.ensures.folder
+    let k = half _ earlier _ earlier _ _ h.0 (begun _ earlier _ safe) noted h.2 in
+    let r = returned _ earlier _ k.0 _ _ h.0 k.1 h.3 in
+    closing _ earlier _ (Returned h.0 ∷ k.0) _ _ _ r (inl refl) c.close-in-Ok-true.ensures.folder
 
 pub returns-in-Ok-false-clause-folder : goal.returns-in-Ok-false-clause-folder
 returns-in-Ok-false-clause-folder g c earlier safe shown =
@@ -28,5 +29,6 @@ returns-in-Ok-false-clause-folder g c earlier safe shown =
 pub returns-in-Err-clause-folder : goal.returns-in-Err-clause-folder
 returns-in-Err-clause-folder g c earlier safe shown =
     let noted = shown_noted _ earlier _ _ (sym c.stage.ensures ∙ c.in-Moved.is) shown in
-    let r = half _ earlier _ earlier _ _ (begun _ earlier _ safe) noted c.in-Err.ensures.folder in
-    broken _ earlier _ r.0 _ _ r.1
+    let h = c.in-Err.ensures.folder in
+    let k = half _ earlier _ earlier _ _ h.0 (begun _ earlier _ safe) noted h.1 in
+    broken _ earlier _ k.0 _ _ k.1

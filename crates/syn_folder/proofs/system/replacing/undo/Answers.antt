@@ -15,10 +15,11 @@ returns-in-Err-leave-clause-folder g c earlier safe unput noted =
 pub returns-in-Ok-true-clause-folder : goal.returns-in-Ok-true-clause-folder
 returns-in-Ok-true-clause-folder g c earlier safe unput noted =
     let h = returned_of _ _ _ c.in-Ok-true.field-0-test c.in-Ok-true.ensures.folder in
-    let r = returned _ earlier _ earlier _ _ h.0 (begun _ earlier _ safe) h.1 in
-    goes_on _ earlier _ _ c.put_back.ensures.wanted (Returned h.0 ∷ earlier) _ _ _ r
-    (λ s. c.end_refused.ensures.folder (Returned h.0 ∷ earlier) s unput
-    (h.1.since.kept ∙ ap (λ (m : Moment). m.kept) h.1.does.2))
+    let k = half _ earlier _ earlier _ _ h.0 (begun _ earlier _ safe) noted h.2 in
+    let r = returned _ earlier _ k.0 _ _ h.0 k.1 h.3 in
+    goes_on _ earlier _ _ c.put_back.ensures.wanted (Returned h.0 ∷ k.0) _ _ _ r
+    (λ s. c.end_refused.ensures.folder (Returned h.0 ∷ k.0) s (k.2 ∙ unput)
+    (h.3.since.kept ∙ ap (λ (m : Moment). m.kept) h.3.does.2))
 
 pub returns-in_default-clause-folder : goal.returns-in_default-clause-folder
 returns-in_default-clause-folder g c earlier safe unput noted =
@@ -28,5 +29,6 @@ returns-in_default-clause-folder g c earlier safe unput noted =
 
 pub returns-in-Err-clause-folder : goal.returns-in-Err-clause-folder
 returns-in-Err-clause-folder g c earlier safe unput noted =
-    let r = half _ earlier _ earlier _ _ (begun _ earlier _ safe) noted c.in-Err.ensures.folder in
-    refused _ earlier _ r.0 _ _ r.1
+    let h = c.in-Err.ensures.folder in
+    let k = half _ earlier _ earlier _ _ h.0 (begun _ earlier _ safe) noted h.1 in
+    refused _ earlier _ k.0 _ _ k.1
