@@ -146,7 +146,9 @@ impl<'a, F: Files> SystemFolder<'a, F> {
             }
             _ => {
                 let at = Path::root(alloc);
-                SystemFolder::open_with(alloc, files, root, &at, Mounts::Apart)
+                let mut folder = SystemFolder::open_with(alloc, files, root, &at, Mounts::Apart)?;
+                folder.top = Some(OpenDir::open(alloc, root)?);
+                Ok(folder)
             }
         }
     }
