@@ -4,7 +4,7 @@ checks/texts looks at the wrong bodies, by the folders that they stand in, and c
 quotations of PROMISE.md and CLAUSES.md together. Whoever adds some raises the number, and nobody
 lowers one.
 """
-LEAST = {"must-fail": 17, "wrong-bodies": 119, "more-wrong-bodies": 163, "quotations": 111}
+LEAST = {"must-fail": 17, "wrong-bodies": 120, "more-wrong-bodies": 163, "quotations": 111}
 
 
 def lack(kind, count):

@@ -270,9 +270,10 @@ where
     tell_kept(rt, folder.kept());
     if stamping.is_raised() || (side.takes_replica && since.stamp.is_none()) {
         since.was_raised = true;
-        let found = replica_status(rt, alloc, shared, pass)?;
         // Where this is refused, the next look that records something keeps it.
-        let _ = stamping.keep(found);
+        if let Ok(found) = replica_status(rt, alloc, shared, pass) {
+            let _ = stamping.keep(found);
+        }
     }
     since.stamp = stamping.stamp();
     reconciled.map_err(LookError::Reconcile)

@@ -7,6 +7,7 @@ use std::fs::Files;
 use syn_folder::{EditedFolder, FolderError, StampFile, SystemFolder};
 use syn_mark::MarkTree;
 use syn_pair::{FolderMismatch, FolderNumber, FolderStamp, SideStatus};
+use syn_path::Path;
 use syn_reconcile::BeforeItems;
 use syn_refusal::Refusal;
 
@@ -101,7 +102,7 @@ impl<'a, 'k, F: Files, K: KeepsMarks> Stamping<'a, 'k, F, K> {
             _ if found.is_none() && is_empty => Ok(()),
             Some(stamp) => stamp.check(found),
             None if found.is_some() => Err(FolderMismatch::OtherFolder),
-            None if has_half(folder, marks) => Ok(()),
+            None if has_half(self.alloc, folder, marks) => Ok(()),
             None => Err(FolderMismatch::NoNumber),
         };
         checked.map_err(StampError::Other)
@@ -221,9 +222,9 @@ fn has_marks(marks: &MarkTree) -> bool {
     marks.node_count() > 1
 }
 
-/// At least half of what is marked stands in the folder.
-fn has_half<E: EditedFolder>(folder: &E, marks: &MarkTree) -> bool {
-    let marked = marks.as_slice();
+/// At least half of what is marked below the root stands in the folder.
+fn has_half<E: EditedFolder>(alloc: Global, folder: &E, marks: &MarkTree) -> bool {
+    let marked = marks.below(&Path::root(alloc));
     let standing = marked
         .iter()
         .filter(|entry| folder.tree().get(entry.path()).is_some())

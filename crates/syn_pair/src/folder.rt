@@ -1,6 +1,6 @@
 //! The folder that marks are of.
 ghost use Rattle.std.specs.Prelude.{◌≡◌, ◌++◌, ◌↔◌, IfErr, IfOk, IfSome, OnOk, Some, true};
-ghost use Rattle.std.specs.Prelude.{option_map};
+ghost use Rattle.std.specs.Prelude.{◌<◌, ◌^◌, option_map, suc};
 ghost use Rattle.syn_pair.specs.Folders.{AreOfFolder, AreNotOfFolder, stamp_of, stamp_spelling};
 ghost use Rattle.syn_model.specs.Refusal.{WrongPair};
 ghost use Rattle.syn_refusal.specs.Refusals.{cause_of};
@@ -111,7 +111,8 @@ impl FolderStamp {
 
     /// The stamp that comes after it.
     pub fn raised(&self) -> FolderStamp
-        ensures { result.number ≡ self.now.number }
+        ensures number { result.number ≡ self.now.number }
+        ensures counter { suc self.now.counter < 2 ^ 64 → result.counter ≡ suc self.now.counter }
     {
         FolderStamp {
             number: self.number,

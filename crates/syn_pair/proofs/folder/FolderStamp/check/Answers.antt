@@ -1,4 +1,4 @@
-use Rattle.std.proofs.Common.{None, Option, option_map, subst, sym}
+use Rattle.std.proofs.Common.{Option, option_map, subst, sym}
 use Rattle.syn_pair.proofs.folder.FolderStamp.check.Goals as goal
 use Rattle.syn_pair.specs.Folders.{AreNotOfFolder, no_number, stamp_of}
 use Rattle.syn_pair.specs.declared.folder.FolderMismatch.TheVariants.{NoNumber}
